@@ -1,0 +1,149 @@
+-- The laws of fill, added and deleted. Assumes nothing.
+use mathlib.Core.Path.{_≡_, refl, sym, ap, ap₂, _∙_}
+use mathlib.Core.Bool.{Bool, true, false}
+use mathlib.Core.List.{List, [], _∷_, _++_, append-nil}
+use mathlib.Core.Option.{Option, none, some}
+use Prim.Native.Nat.{ℕ, zero, suc, _+_, _-_, _≤_, _<_}
+use native.Mathlib.Nat.{add-zero, mul-one, sub-self, sub-zero}
+use native.Mathlib.Omega.{arith}
+use lib.ListN.{length, take, drop, getD, replicate, length-take, take-append-drop, length-replicate, length-append, replicate-append-replicate}
+use lib.Seq.{slice, slice-cons, length-slice, drop-cons, drop-append-le, take-take}
+use Rattle.bits.specs.Bits.{bit, num, bitsN, testBit, over}
+use Rattle.bits.specs.Fill.{before, strip, foundAt, fillBits, filled}
+use Rattle.bits.proofs.Numbers.{bitsN-zero}
+use Rattle.bits.proofs.Over.{over-over}
+use Rattle.bits.specs.declared.Found.the-variants.{At}
+
+pub strip-none : (r : List Bool) → strip r ≡ none → strip (false ∷ r) ≡ none
+unfolding strip before
+strip-none r e = rw e refl
+
+pub strip-at : (a r : List Bool) → strip r ≡ none → strip (a ++ true ∷ r) ≡ some a
+unfolding strip before
+strip-at [] r e = rw e refl
+strip-at (x ∷ xs) r e = rw (strip-at xs r e) refl
+
+strip-zeros : (n : ℕ) → strip (replicate n false) ≡ none
+unfolding strip before
+strip-zeros zero = refl
+strip-zeros (suc n) = strip-none (replicate n false) (strip-zeros n)
+
+pub length-fillBits : (n : ℕ) → length (fillBits n) ≡ n
+unfolding fillBits
+length-fillBits zero = refl
+length-fillBits (suc n) = ap suc (length-replicate n false)
+
+-- deleting the fill that was added gives the message back
+pub strip-fill : (m : List Bool) (n : ℕ) → strip (m ++ fillBits (suc n)) ≡ some m
+unfolding fillBits
+strip-fill m n = strip-at m (replicate n false) (strip-zeros n)
+
+pub strip-filled : (room : ℕ) (m : List Bool) → length m < room → strip (filled room m) ≡ some m
+unfolding filled
+strip-filled room m h =
+    let e : room - length m ≡ suc (room - suc (length m)) = omega arith in
+    rw e (strip-fill m (room - suc (length m)))
+
+pub length-filled : (room : ℕ) (m : List Bool) → length m ≤ room → length (filled room m) ≡ room
+unfolding filled
+length-filled room m h = length-append m (fillBits (room - length m)) ∙ omega (arith, length-fillBits (room - length m))
+
+-- a room that no bit is left of has no fill
+pub filled-none : (m : List Bool) → filled (length m) m ≡ m
+unfolding filled fillBits
+filled-none m = rw (sub-self (length m)) (append-nil m)
+
+-- ---- what a string is that fill was deleted from
+
+none-first : (x : Bool) (o : Option (List Bool)) → before x o ≡ none → (x ≡ false) × (o ≡ none)
+unfolding before
+none-first x (some r) e = let z : _≡_ {A = ℕ} 0 1 = cc in absurd (omega arith)
+none-first true none e = let z : _≡_ {A = ℕ} 0 1 = cc in absurd (omega arith)
+none-first false none e = (refl, refl)
+
+-- no 1: all 0s
+pub strip-none-is : (b : List Bool) → strip b ≡ none → b ≡ replicate (length b) false
+unfolding strip
+strip-none-is [] e = refl
+strip-none-is (x ∷ xs) e = let f = none-first x (strip xs) e in ap₂ _∷_ (f .0) (strip-none-is xs (f .1))
+
+some-first : (x : Bool) (xs m : List Bool) (o : Option (List Bool)) → strip xs ≡ o → ((r : List Bool) → strip xs ≡ some r → xs ≡ filled (length xs) r)
+    → before x o ≡ some m → x ∷ xs ≡ filled (suc (length xs)) m
+unfolding before filled fillBits
+some-first x xs m (some r) s ih e =
+    let em : m ≡ x ∷ r = cc in
+    let d : suc (length xs) - suc (length r) ≡ length xs - length r = omega arith in
+    rw (em, d) (ap (_∷_ x) (ih r s))
+some-first true xs m none s ih e = let em : m ≡ [] = cc in rw (em, sub-zero (suc (length xs))) (ap (_∷_ true) (strip-none-is xs s))
+some-first false xs m none s ih e = let z : _≡_ {A = ℕ} 0 1 = cc in absurd (omega arith)
+
+-- a 1: the message before the last one, and fill
+pub strip-is : (b m : List Bool) → strip b ≡ some m → b ≡ filled (length b) m
+unfolding strip
+strip-is [] m e = let z : _≡_ {A = ℕ} 0 1 = cc in absurd (omega arith)
+strip-is (x ∷ xs) m e = some-first x xs m (strip xs) refl (λ r s. strip-is xs r s) e
+
+-- ---- the search from the end
+
+pub bit-one : (b : Bool) → bit b ≡ 1 → b ≡ true
+unfolding bit
+bit-one true e = refl
+bit-one false e = absurd (omega arith)
+
+pub bit-other : (b : Bool) → (bit b ≡ 1 → ⊥) → b ≡ false
+unfolding bit
+bit-other true h = absurd (h refl)
+bit-other false h = refl
+
+pub num-one : (l : List Bool) (j : ℕ) → j < length l → num (take 1 (drop j l)) ≡ bit (getD l j false)
+unfolding num
+num-one l j h = rw (drop-cons l j false h, mul-one (bit (getD l j false)), add-zero (bit (getD l j false))) refl
+
+slice-split : (f j t : ℕ) (l : List Bool) → f ≤ j → j ≤ t → t ≤ length l → slice f t l ≡ slice f j l ++ slice j t l
+slice-split f j t l h k i =
+    ap (drop f) (sym (take-append-drop j (take t l)))
+    ∙ drop-append-le f (take j (take t l)) (slice j t l) (rw (length-take j (take t l), length-take t l) (omega arith))
+    ∙ ap (λ (x : List Bool). drop f x ++ slice j t l) (take-take j t l k)
+
+module _ (l : List Bool) (from to i j : ℕ) (e : i ≡ suc j) (f : from < i) (h : i ≤ to) (t : to ≤ length l) (s : strip (slice i to l) ≡ none) where
+  cut : slice j to l ≡ getD l j false ∷ slice i to l
+  cut = slice-cons j to l false (omega arith) t ∙ ap (λ (n : ℕ). getD l j false ∷ slice n to l) (sym e)
+
+  pub last-more : (num (take 1 (drop j l)) ≡ 1 → ⊥) → strip (slice j to l) ≡ none
+  last-more n =
+      let z : getD l j false ≡ false = bit-other (getD l j false) (rw (num-one l j (omega arith)) at n) in
+      rw (cut, z) (strip-none (slice i to l) s)
+
+  pub last-found : num (take 1 (drop j l)) ≡ 1 → At j ≡ foundAt from (strip (slice from to l))
+  unfolding foundAt
+  last-found n =
+      let z : getD l j false ≡ true = bit-one (getD l j false) (rw (num-one l j (omega arith)) at n) in
+      let m : from + length (slice from j l) ≡ j = rw (length-slice from j l (omega arith)) (omega arith) in
+      rw (slice-split from j to l (omega arith) (omega arith) t, cut, z, strip-at (slice from j l) (slice i to l) s, m) refl
+
+-- ---- fill, 32 bits at a time
+
+pub fill-start : bitsN 1 1 ≡ true ∷ []
+unfolding bitsN testBit
+fill-start = refl
+
+pub clear-more : (from i w : ℕ) (b : List Bool) → from ≤ i → i + w ≤ length b
+    → over i (bitsN w 0) (over from (replicate (i - from) false) b) ≡ over from (replicate (i + w - from) false) b
+clear-more from i w b h l =
+    let f = replicate (i - from) false in
+    let lf : length f ≡ i - from = length-replicate (i - from) false in
+    let e : i ≡ from + length f = omega arith in
+    let m : i - from + w ≡ i + w - from = omega arith in
+    rw (bitsN-zero w)
+    (ap (λ (x : ℕ). over x (replicate w false) (over from f b)) e
+    ∙ over-over from f (replicate w false) b (rw (length-replicate w false) (omega arith))
+    ∙ ap (λ (x : List Bool). over from x b) (replicate-append-replicate (i - from) w false ∙ ap (λ (n : ℕ). replicate n false) m))
+
+-- the 1 and the 0s
+pub fill-end : (at to : ℕ) (b : List Bool) → at < to → to ≤ length b
+    → over (at + 1) (replicate (to - (at + 1)) false) (over at (bitsN 1 1) b) ≡ over at (fillBits (to - at)) b
+unfolding fillBits
+fill-end at to b h l =
+    let n = to - (at + 1) in
+    let e : to - at ≡ suc n = omega arith in
+    rw (e, fill-start) (over-over at (true ∷ []) (replicate n false) b (rw (length-replicate n false) (omega arith)))

@@ -1,0 +1,172 @@
+// Bit strings over lent bytes: eight bits to a byte, the first bit highest.
+ghost use mathlib.Core.Path.{_≡_};
+ghost use mathlib.Core.Bool.{false};
+ghost use Prim.Native.Nat.{_+_, _-_, _*_, _^_, _≤_, _<_, min};
+ghost use lib.ListN.{length, take, drop, replicate};
+ghost use lib.Seq.{slice};
+ghost use Rattle.bits.specs.Bits.{num, bitsN, bitsOf, over, Inside, Got};
+ghost use Rattle.bits.specs.Layout.{total, partsWith, AllFit, AllNarrow, pack};
+ghost use Rattle.bits.specs.Fill.{strip, foundAt, fillBits};
+
+fn wide(x: u8) -> u64
+    ensures { λ r. ⌜ r ≡ x ⌝ }
+{
+    x as u64
+}
+
+fn index(x: u8) -> usize
+    ensures { λ r. ⌜ r ≡ x ⌝ }
+{
+    x as usize
+}
+
+fn least(a: usize, b: usize) -> usize
+    ensures { λ r. ⌜ r ≡ min a b ⌝ }
+{
+    if a < b { a } else { b }
+}
+
+// The bytes from `first` up to `last`, eight at most, as one number, the first byte highest.
+fn load(s: &[u8], first: usize, last: usize) -> u64
+    requires { ⌜ (first ≤ last) × (last ≤ length (now s)) × (last ≤ first + 8) ⌝ }
+    ensures { λ r. ⌜ r ≡ num (bitsOf (slice first last (now (s .entry)))) ⌝ }
+{
+    let mut acc: u64 = 0;
+    let mut i = first;
+    while i < last {
+        acc = (acc << 8) | wide(s[i]);
+        i += 1;
+    }
+    acc
+}
+
+// Puts the low `8 * (last - first)` bits of `v` into the bytes from `first` up to `last`.
+fn store(out: &mut [u8], first: usize, last: usize, v: u64)
+    requires { ⌜ (first ≤ last) × (last ≤ length (now out)) × (last ≤ first + 8) ⌝ }
+    ensures { λ r. ⌜ bitsOf (now (out .exit)) ≡ over (8 * first) (bitsN (8 * (last - first)) v) (bitsOf (now (out .entry))) ⌝ }
+{
+    let mut rest = v;
+    let mut i = last;
+    while first < i {
+        i -= 1;
+        out[i] = (rest & 255) as u8;
+        rest = rest >> 8;
+    }
+}
+
+// The `w` bits from bit `at` on, as a number.
+pub fn get(s: &[u8], at: usize, w: usize) -> u64
+    requires { ⌜ Inside (length (now s)) at (at + w) × (w ≤ 56) ⌝ }
+    ensures { λ r. ⌜ Got (bitsOf (now (s .entry))) at w r ⌝ }
+{
+    let end = at + w;
+    let last = (end + 7) >> 3;
+    let acc = load(s, at >> 3, last);
+    (acc >> ((last << 3) - end)) & ((1 << w) - 1)
+}
+
+// The same, of eight bits at most.
+pub fn get8(s: &[u8], at: usize, w: usize) -> u8
+    requires { ⌜ Inside (length (now s)) at (at + w) × (w ≤ 8) ⌝ }
+    ensures { λ r. ⌜ Got (bitsOf (now (s .entry))) at w r ⌝ }
+{
+    get(s, at, w) as u8
+}
+
+// The same, of 32 bits at most.
+pub fn get32(s: &[u8], at: usize, w: usize) -> u32
+    requires { ⌜ Inside (length (now s)) at (at + w) × (w ≤ 32) ⌝ }
+    ensures { λ r. ⌜ Got (bitsOf (now (s .entry))) at w r ⌝ }
+{
+    get(s, at, w) as u32
+}
+
+// Puts the `w` bits of `v` at bit `at`; every other bit stays.
+pub fn put(out: &mut [u8], at: usize, w: usize, v: u64)
+    requires { ⌜ Inside (length (now out)) at (at + w) × (w ≤ 56) × (v < 2 ^ w) ⌝ }
+    ensures { λ r. ⌜ bitsOf (now (out .exit)) ≡ over at (bitsN w v) (bitsOf (now (out .entry))) ⌝ }
+{
+    let end = at + w;
+    let first = at >> 3;
+    let last = (end + 7) >> 3;
+    let r = (last << 3) - end;
+    let acc = load(out, first, last);
+    let high = (acc >> (w + r)) << (w + r);
+    let low = acc & ((1 << r) - 1);
+    store(out, first, last, high | ((v << r) | low));
+}
+
+// Puts each value into its width of bits, side by side from bit `at` on.
+pub fn put_all(out: &mut [u8], at: usize, widths: &[u8], values: &[u64])
+    requires { ⌜ (length (now widths) ≡ length (now values)) × AllNarrow (now widths)
+        × AllFit (partsWith (now widths) (now values))
+        × Inside (length (now out)) at (at + total (partsWith (now widths) (now values))) ⌝ }
+    ensures { λ r. ⌜ bitsOf (now (out .exit)) ≡ over at (pack (partsWith (now (widths .entry)) (now (values .entry)))) (bitsOf (now (out .entry))) ⌝ }
+{
+    let mut to = at;
+    let mut i: usize = 0;
+    while i < widths.len() {
+        let w = index(widths[i]);
+        put(out, to, w, values[i]);
+        to += w;
+        i += 1;
+    }
+}
+
+// Copies `n` bits of `src` from bit `from` on to `dst` at bit `to`, 32 at a time.
+pub fn copy(src: &[u8], from: usize, dst: &mut [u8], to: usize, n: usize)
+    requires { ⌜ Inside (length (now src)) from (from + n) × Inside (length (now dst)) to (to + n) ⌝ }
+    ensures { λ r. ⌜ bitsOf (now (dst .exit)) ≡ over to (take n (drop from (bitsOf (now (src .entry))))) (bitsOf (now (dst .entry))) ⌝ }
+{
+    let mut i = 0;
+    while i < n {
+        let w = least(n - i, 32);
+        put(dst, to + i, w, get(src, from + i, w));
+        i += w;
+    }
+}
+
+// 0s from bit `from` up to `to`, 32 at a time.
+pub fn clear(out: &mut [u8], from: usize, to: usize)
+    requires { ⌜ Inside (length (now out)) from to ⌝ }
+    ensures { λ r. ⌜ bitsOf (now (out .exit)) ≡ over from (replicate (to - from) false) (bitsOf (now (out .entry))) ⌝ }
+{
+    let mut i = from;
+    while i < to {
+        let w = least(to - i, 32);
+        put(out, i, w, 0);
+        i += w;
+    }
+}
+
+// Fills the bits left from bit `from` up to `to`: a 1, and 0s after it; nothing where none is left.
+pub fn fill(out: &mut [u8], from: usize, to: usize)
+    requires { ⌜ Inside (length (now out)) from to ⌝ }
+    ensures { λ r. ⌜ bitsOf (now (out .exit)) ≡ over from (fillBits (to - from)) (bitsOf (now (out .entry))) ⌝ }
+{
+    if from < to {
+        put(out, from, 1, 1);
+        clear(out, from + 1, to);
+    }
+}
+
+// A place, or none.
+pub enum Found {
+    At(usize),
+    Nothing,
+}
+
+// The last bit that is 1 of those from `from` up to `to`.
+pub fn last_one(s: &[u8], from: usize, to: usize) -> Found
+    requires { ⌜ Inside (length (now s)) from to ⌝ }
+    ensures { λ r. ⌜ r ≡ foundAt from (strip (slice from to (bitsOf (now (s .entry))))) ⌝ }
+{
+    let mut i = to;
+    while from < i {
+        i -= 1;
+        if get(s, i, 1) == 1 {
+            return Found::At(i);
+        }
+    }
+    Found::Nothing
+}

@@ -1,0 +1,2 @@
+-- What the contracts of `bits_vectors` cite.
+pub mod Measure
