@@ -90,6 +90,15 @@ pub all-bytes : (s : List ℕ) → ((i : ℕ) → getD s i 0 < 256) → AllBytes
 all-bytes [] h = tt
 all-bytes (x ∷ xs) h = (h 0, all-bytes xs (λ i. h (suc i)))
 
+pub bytes-append : (a b : List ℕ) → AllBytes a → AllBytes b → AllBytes (a ++ b)
+bytes-append [] b h k = k
+bytes-append (x ∷ xs) b h k = (h .0, bytes-append xs b (h .1) k)
+
+pub bytes-drop : (n : ℕ) (s : List ℕ) → AllBytes s → AllBytes (drop n s)
+bytes-drop zero s h = h
+bytes-drop (suc n) [] h = tt
+bytes-drop (suc n) (x ∷ xs) h = bytes-drop n xs (h .1)
+
 -- ---- a number loaded from bytes, and a field of it
 
 -- one byte more

@@ -83,6 +83,19 @@ unfolding strip
 strip-is [] m e = let z : _≡_ {A = ℕ} 0 1 = cc in absurd (omega arith)
 strip-is (x ∷ xs) m e = some-first x xs m (strip xs) refl (λ r s. strip-is xs r s) e
 
+some-shorter : (x : Bool) (xs m : List Bool) (o : Option (List Bool)) → ((r : List Bool) → o ≡ some r → length r < length xs) → before x o ≡ some m
+    → length m < suc (length xs)
+unfolding before
+some-shorter x xs m (some r) ih e = let em : m ≡ x ∷ r = cc in rw em (let h = ih r refl in omega arith)
+some-shorter true xs m none ih e = let em : m ≡ [] = cc in rw em (omega arith)
+some-shorter false xs m none ih e = let z : _≡_ {A = ℕ} 0 1 = cc in absurd (omega arith)
+
+-- fill takes a bit at least
+pub strip-lt : (b m : List Bool) → strip b ≡ some m → length m < length b
+unfolding strip
+strip-lt [] m e = let z : _≡_ {A = ℕ} 0 1 = cc in absurd (omega arith)
+strip-lt (x ∷ xs) m e = some-shorter x xs m (strip xs) (λ r s. strip-lt xs r s) e
+
 -- ---- the search from the end
 
 pub bit-one : (b : Bool) → bit b ≡ 1 → b ≡ true

@@ -7,9 +7,9 @@ use native.Mathlib.Nat.{add-zero, zero-add, add-assoc}
 use native.Mathlib.Omega.{arith}
 use lib.ListN.{length, take, drop, length-append, length-take, length-drop, take-append-drop}
 use lib.Seq.{take-append-add, drop-append-add, take-append-le, drop-append-le, drop-length, take-at, drop-at, drop-drop, take-add, slice, length-take-le, length-slice, take-take}
-use Rattle.bits.specs.Bits.{over, num, bitsN, bitsOf}
+use Rattle.bits.specs.Bits.{over, num, bitsN, bitsOf, bytesN, AllBytes}
 use Rattle.bits.proofs.Numbers.{bitsN-is, take-of-drop}
-use Rattle.bits.proofs.Bytes.{length-bitsOf, bitsOf-append, bitsOf-take, bitsOf-drop}
+use Rattle.bits.proofs.Bytes.{length-bitsOf, bitsOf-append, bitsOf-take, bitsOf-drop, bitsOf-bytesN, bitsOf-inj, bytesN-bytes, bytes-append, bytes-drop}
 
 pub length-over : (at : ℕ) (n l : List Bool) → at + length n ≤ length l → length (over at n l) ≡ length l
 unfolding over
@@ -111,6 +111,15 @@ over-bytes k n l =
       bitsOf-drop (k + length n) l,
       e,
     ) refl
+
+-- whole bytes written at the start: these bytes, and after them what was there
+pub bytes-written : (q : ℕ) (x : List Bool) (old new : List ℕ) → length x ≡ 8 * q → AllBytes old → AllBytes new → bitsOf new ≡ over 0 x (bitsOf old)
+    → new ≡ bytesN q x ++ drop (length (bytesN q x)) old
+bytes-written q x old new e ho hn w =
+    let b = bytesN q x in
+    let whole : over 0 x (bitsOf old) ≡ bitsOf (b ++ drop (length b) old) =
+    ap (λ (y : List Bool). over 0 y (bitsOf old)) (sym (bitsOf-bytesN q x e)) ∙ over-bytes 0 b old ∙ rw (zero-add (length b)) refl in
+    bitsOf-inj new (b ++ drop (length b) old) hn (bytes-append b (drop (length b) old) (bytesN-bytes q x) (bytes-drop (length b) old ho)) (w ∙ whole)
 
 -- ---- a part of the whole
 

@@ -1,0 +1,42 @@
+-- The laws of fault chains. Assumes nothing.
+use mathlib.Core.Path.{_≡_, refl, ap}
+use mathlib.Core.Bool.{Bool, true, false}
+use mathlib.Core.List.{List, [], _∷_, _++_}
+use Prim.Native.Nat.{ℕ, zero, suc}
+use native.Mathlib.Omega.{arith}
+use Rattle.blocks.specs.Faults.{unless, firstOf, AllZero, GivenFirst}
+
+-- a chain that gives nothing: each of its rules holds
+pub all-zero : (ns : List ℕ) → firstOf ns ≡ 0 → AllZero ns
+all-zero [] e = tt
+all-zero (zero ∷ ns) e = (refl, all-zero ns e)
+all-zero (suc n ∷ ns) e = absurd (omega arith)
+
+pub zero-split : (a b : List ℕ) → AllZero (a ++ b) → AllZero a × AllZero b
+zero-split [] b z = (tt, z)
+zero-split (n ∷ ns) b z = let r = zero-split ns b (z .1) in ((z .0, r .0), r .1)
+
+pub holds : (t : Bool) (n : ℕ) → unless t (suc n) ≡ 0 → t ≡ true
+holds true n e = refl
+holds false n e = absurd (omega arith)
+
+-- two chains, one after the other: what the first gives, or else what the second does
+pub chain-none : (a b : List ℕ) → firstOf a ≡ 0 → firstOf (a ++ b) ≡ firstOf b
+chain-none [] b e = refl
+chain-none (zero ∷ ns) b e = chain-none ns b e
+chain-none (suc n ∷ ns) b e = absurd (omega arith)
+
+pub chain-given : (a b : List ℕ) → (firstOf a ≡ 0 → ⊥) → firstOf (a ++ b) ≡ firstOf a
+chain-given [] b h = absurd (h refl)
+chain-given (zero ∷ ns) b h = chain-given ns b h
+chain-given (suc n ∷ ns) b h = refl
+
+-- ---- the first number given
+
+first-more : {n : ℕ} (m : ℕ) {ns : List ℕ} → m ≡ 0 → GivenFirst n ns → GivenFirst n (m ∷ ns)
+first-more m e g = record { passed = m ∷ g .passed; others = g .others; split = ap (_∷_ m) (g .split); holding = (e, g .holding) }
+
+pub given-first : (n : ℕ) (ns : List ℕ) → firstOf ns ≡ suc n → GivenFirst n ns
+given-first n [] e = absurd (omega arith)
+given-first n (zero ∷ ns) e = first-more 0 refl (given-first n ns e)
+given-first n (suc m ∷ ns) e = record { passed = []; others = ns; split = ap (λ (x : ℕ). x ∷ ns) e; holding = tt }

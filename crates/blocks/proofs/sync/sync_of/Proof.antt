@@ -1,0 +1,31 @@
+use Rattle.blocks.specs.Sync.{syncOf}
+use borrow.Author.Needs.{needs}
+use Rattle.blocks.proofs.sync.sync_of.Statement.{statement}
+use Rattle.blocks.proofs.sync.sync_of.Tie as tie
+
+get8-requires : tie.Need-get8-requires
+get8-requires c κs = search needs
+
+get8-requires-2 : tie.Need-get8-requires-2
+get8-requires-2 c κs = search needs
+
+get8-requires-3 : tie.Need-get8-requires-3
+get8-requires-3 c κs = search needs
+
+get8-requires-4 : tie.Need-get8-requires-4
+get8-requires-4 c κs = search needs
+
+returns : tie.Need-returns
+unfolding syncOf
+returns c =
+    λ i.
+    record {
+      system = c .before .before .before .get8 .ensures .is i;
+      usage = c .before .before .get82 .ensures .is i;
+      slot = c .before .get83 .ensures .is i;
+      frame = c .get84 .ensures .is i;
+    }
+
+pub sync-of-spec : {M : Type 1} → statement M
+sync-of-spec =
+    tie.close (tie.spec get8-requires get8-requires-2 get8-requires-3 get8-requires-4 returns)

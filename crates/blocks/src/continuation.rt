@@ -1,0 +1,51 @@
+// SCH/F with a continuation block: DMAC-FRAG or DMAC-END.
+ghost use mathlib.Core.Path.{_≡_};
+ghost use Rattle.blocks.specs.Continuation.{refusedBlock, readContinuation};
+use crate::sizes::SchF;
+use bits::Found;
+
+// A continuation block that was read; where it was refused, all but the fault is 0. `last` is 1 for DMAC-END, `first` the DM-SDU's first bit
+// and `bits` the number of its message bits.
+pub struct Continuation {
+    pub fault: u8,
+    pub last: u8,
+    pub first: usize,
+    pub bits: usize,
+}
+
+fn refused(fault: u8) -> Continuation
+    ensures { λ r. ⌜ r ≡ refusedBlock fault ⌝ }
+{
+    Continuation {
+        fault,
+        last: 0,
+        first: 0,
+        bits: 0,
+    }
+}
+
+// Reads a continuation block; copies nothing.
+pub fn read_continuation(s: &[u8]) -> Continuation
+    ensures { λ r. ⌜ r ≡ readContinuation (now (s .entry)) ⌝ }
+{
+    if s.len() != SchF::BYTES {
+        return refused(1);
+    }
+    if bits::get8(s, 268, 4) != 0 {
+        return refused(2);
+    }
+    if bits::get8(s, 0, 2) != 1 {
+        return refused(12);
+    }
+    let last = bits::get8(s, 2, 1);
+    let fill = bits::get8(s, 3, 1);
+    let Found::At(end) = crate::sdu::sdu_end(s, fill, 4, SchF::BITS) else {
+        return refused(11);
+    };
+    Continuation {
+        fault: 0,
+        last,
+        first: 4,
+        bits: end - 4,
+    }
+}

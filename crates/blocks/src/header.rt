@@ -1,0 +1,232 @@
+// SCH/H with its SCH/S: a header.
+ghost use mathlib.Core.Path.{_≡_};
+ghost use Prim.Native.Nat.{_+_, _*_, _≤_};
+ghost use lib.ListN.{length};
+ghost use Rattle.bits.specs.Bits.{bitsOf};
+ghost use Rattle.blocks.specs.Faults.{firstOf};
+ghost use Rattle.blocks.specs.Header.{addressWidth, addressAt, bodyOf, bodyRules, refusedHeader, readBody, readHeader, readReported};
+use crate::sizes::SchH;
+use crate::sync::Sync;
+use bits::Found;
+
+// An address element: its type, and the SSI, 0 where it is absent.
+pub struct Address {
+    pub kind: u8,
+    pub ssi: u32,
+}
+
+// What a message's header says of it: addresses, MNI, message type, and the dependent elements as one run of bits with its width.
+pub struct Fields {
+    pub destination: Address,
+    pub source: Address,
+    pub mni: u32,
+    pub message: u8,
+    pub width: u8,
+    pub elements: u64,
+}
+
+// A header that was read; where it was refused, all but the fault is 0. `fragmented` is the flag, `count` the number of SCH/F slots,
+// `first` the DM-SDU's first bit in SCH/H and `bits` the number of its message bits.
+pub struct Header {
+    pub fault: u8,
+    pub sync: Sync,
+    pub fragmented: u8,
+    pub count: u8,
+    pub countdown: u8,
+    pub fields: Fields,
+    pub first: usize,
+    pub bits: usize,
+}
+
+fn refused(fault: u8) -> Header
+    ensures { λ r. ⌜ r ≡ refusedHeader fault ⌝ }
+{
+    Header {
+        fault,
+        sync: Sync {
+            system: 0,
+            usage: 0,
+            slot: 0,
+            frame: 0,
+        },
+        fragmented: 0,
+        count: 0,
+        countdown: 0,
+        fields: Fields {
+            destination: Address { kind: 0, ssi: 0 },
+            source: Address { kind: 0, ssi: 0 },
+            mni: 0,
+            message: 0,
+            width: 0,
+            elements: 0,
+        },
+        first: 0,
+        bits: 0,
+    }
+}
+
+// The bits of an address, by its type.
+pub(crate) fn address_width(kind: u8) -> usize
+    ensures { λ r. ⌜ r ≡ addressWidth kind ⌝ }
+{
+    if kind == 2 { 0 } else { 24 }
+}
+
+// An address as it stands, and the bit after it.
+struct Addressed {
+    address: Address,
+    next: usize,
+}
+
+fn address_at(h: &[u8], at: usize) -> Addressed
+    requires { ⌜ (at + 26 ≤ 8 * length (now h)) × (at ≤ 4096) ⌝ }
+    ensures { λ r. ⌜ r ≡ addressAt at (bitsOf (now (h .entry))) ⌝ }
+{
+    let kind = bits::get8(h, at, 2);
+    let w = address_width(kind);
+    let ssi = bits::get32(h, at + 2, w);
+    Addressed {
+        address: Address { kind, ssi },
+        next: at + 2 + w,
+    }
+}
+
+// SCH/H as it stands, before it is judged; `first` is the bit after its elements.
+struct Body {
+    fill: u8,
+    fragmented: u8,
+    count: u8,
+    countdown: u8,
+    destination: Address,
+    source: Address,
+    mni: u32,
+    message: u8,
+    width: usize,
+    first: usize,
+}
+
+fn body_of(h: &[u8]) -> Body
+    requires { ⌜ length (now h) ≡ 16 ⌝ }
+    ensures { λ r. ⌜ r ≡ bodyOf (bitsOf (now (h .entry))) ⌝ }
+{
+    let fill = bits::get8(h, 10, 1);
+    let fragmented = bits::get8(h, 11, 1);
+    let counted = 4 * (fragmented as usize);
+    let count = bits::get8(h, 12, counted);
+    let at = 12 + counted;
+    let countdown = bits::get8(h, at, 2);
+    let d = address_at(h, at + 2);
+    let s = address_at(h, d.next);
+    let mni = bits::get32(h, s.next, 24);
+    let message = bits::get8(h, s.next + 24, 5);
+    let run = s.next + 24 + 5;
+    let width = crate::widths::width_at(h, run, message);
+    let destination = d.address;
+    let source = s.address;
+    Body {
+        fill,
+        fragmented,
+        count,
+        countdown,
+        destination,
+        source,
+        mni,
+        message,
+        width,
+        first: run + width,
+    }
+}
+
+// The first of the faults 10, 8 and 9 that these elements give, 0 where they give none.
+fn body_rules(fragmented: u8, count: u8, to: u8, from: u8, width: usize, first: usize) -> u8
+    ensures { λ r. ⌜ r ≡ firstOf (bodyRules fragmented count to from width first) ⌝ }
+{
+    if count < fragmented {
+        return 10;
+    }
+    if 2 < to {
+        return 8;
+    }
+    if 2 < from {
+        return 8;
+    }
+    if 254 < width {
+        return 9;
+    }
+    if SchH::BITS < first {
+        return 9;
+    }
+    0
+}
+
+// What follows SCH/S's part: the faults from 10 on, the fields and the DM-SDU.
+fn read_body(sync: Sync, h: &[u8]) -> Header
+    requires { ⌜ length (now h) ≡ 16 ⌝ }
+    ensures { λ r. ⌜ r ≡ readBody sync (bitsOf (now (h .entry))) ⌝ }
+{
+    let b = body_of(h);
+    let fault = body_rules(
+        b.fragmented,
+        b.count,
+        b.destination.kind,
+        b.source.kind,
+        b.width,
+        b.first,
+    );
+    if fault != 0 {
+        return refused(fault);
+    }
+    let Found::At(end) = crate::sdu::sdu_end(h, b.fill, b.first, SchH::BITS) else {
+        return refused(11);
+    };
+    let elements = bits::get(h, b.first - b.width, b.width);
+    let destination = b.destination;
+    let source = b.source;
+    let fields = Fields {
+        destination,
+        source,
+        mni: b.mni,
+        message: b.message,
+        width: b.width as u8,
+        elements,
+    };
+    Header {
+        fault: 0,
+        sync,
+        fragmented: b.fragmented,
+        count: b.count,
+        countdown: b.countdown,
+        fields,
+        first: b.first,
+        bits: end - b.first,
+    }
+}
+
+// Reads a header from its two lent blocks; copies nothing.
+pub fn read_header(s: &[u8], h: &[u8]) -> Header
+    ensures { λ r. ⌜ r ≡ readHeader (now (s .entry)) (now (h .entry)) ⌝ }
+{
+    let fault = crate::sync::sync_fault(s, h);
+    if fault != 0 {
+        return refused(fault);
+    }
+    read_body(crate::sync::sync_of(s), h)
+}
+
+// Reads a header as a report brings it: the block's frame and slot are to be the report's.
+pub fn read_reported(frame: u8, slot: u8, s: &[u8], h: &[u8]) -> Header
+    ensures { λ r. ⌜ r ≡ readReported frame slot (now (s .entry)) (now (h .entry)) ⌝ }
+{
+    let fault = crate::sync::sync_fault(s, h);
+    if fault != 0 {
+        return refused(fault);
+    }
+    let sync = crate::sync::sync_of(s);
+    if sync.frame != frame {
+        return refused(18);
+    }
+    if sync.slot + 1 != slot {
+        return refused(18);
+    }
+    read_body(sync, h)
+}

@@ -1,0 +1,88 @@
+// SCH/S: the DMAC-SYNC PDU's first 60 bits.
+ghost use mathlib.Core.Path.{_≡_};
+ghost use lib.ListN.{length};
+ghost use Rattle.bits.specs.Bits.{bitsOf};
+ghost use Rattle.blocks.specs.Faults.{firstOf};
+ghost use Rattle.blocks.specs.Sync.{syncOf, syncRules, syncChecks};
+use crate::sizes::SchH;
+use crate::sizes::SchS;
+
+// Its fields, but for the fixed ones. The slot is as coded in 9.3.25: 0 is slot 1.
+pub struct Sync {
+    pub system: u8,
+    pub usage: u8,
+    pub slot: u8,
+    pub frame: u8,
+}
+
+// The first of the faults 2 to 7 that these elements give, 0 where they give none.
+fn sync_rules(
+    pad: u8,
+    other: u8,
+    system: u8,
+    pdu: u8,
+    communication: u8,
+    encryption: u8,
+    frame: u8,
+) -> u8
+    ensures { λ r. ⌜ r ≡ firstOf (syncRules pad other system pdu communication encryption frame) ⌝ }
+{
+    if pad != 0 {
+        return 2;
+    }
+    if other != 0 {
+        return 2;
+    }
+    if system < 10 {
+        return 3;
+    }
+    if pdu != 0 {
+        return 4;
+    }
+    if communication != 0 {
+        return 5;
+    }
+    if encryption != 0 {
+        return 6;
+    }
+    if frame < 1 {
+        return 7;
+    }
+    if 18 < frame {
+        return 7;
+    }
+    0
+}
+
+// The first of the faults 1 to 7 of the two blocks of a header, 0 where they give none.
+pub(crate) fn sync_fault(s: &[u8], h: &[u8]) -> u8
+    ensures { λ r. ⌜ r ≡ firstOf (syncChecks (now (s .entry)) (now (h .entry))) ⌝ }
+{
+    if s.len() != SchS::BYTES {
+        return 1;
+    }
+    if h.len() != SchH::BYTES {
+        return 1;
+    }
+    let pad = bits::get8(s, 60, 4);
+    let other = bits::get8(h, 124, 4);
+    let system = bits::get8(s, 0, 4);
+    let pdu = bits::get8(s, 4, 2);
+    let communication = bits::get8(s, 6, 2);
+    let encryption = bits::get8(s, 19, 2);
+    let frame = bits::get8(s, 14, 5);
+    sync_rules(pad, other, system, pdu, communication, encryption, frame)
+}
+
+// The fields as they stand.
+pub(crate) fn sync_of(s: &[u8]) -> Sync
+    requires { ⌜ length (now s) ≡ 8 ⌝ }
+    ensures { λ r. ⌜ r ≡ syncOf (bitsOf (now (s .entry))) ⌝ }
+{
+    Sync {
+        system: bits::get8(s, 0, 4),
+        usage: bits::get8(s, 10, 2),
+        slot: bits::get8(s, 12, 2),
+        frame: bits::get8(s, 14, 5),
+    }
+}

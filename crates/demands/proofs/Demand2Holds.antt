@@ -1,0 +1,265 @@
+-- Demand 2 holds. Assumes nothing.
+use mathlib.Core.Path.{_≡_, refl, sym, ap, ap₂, _∙_}
+use mathlib.Core.Bool.{Bool, true, false, cond}
+use mathlib.Core.List.{List, [], _∷_, _++_, append-nil}
+use mathlib.Core.Logic.{_⊎_, inl, inr, ⊎-elim}
+use Prim.Native.Nat.{ℕ, zero, suc, _+_, _-_, _*_, _/_, _^_, _≤_, _<_}
+use native.Mathlib.Nat.{sub-self}
+use native.Mathlib.Omega.{arith}
+use lib.Dec.{leb}
+use lib.ListN.{length, take, drop, length-take, length-append}
+use lib.Seq.{take-all}
+use borrow.Author.Tests.{le-leb, lt-leb, lt-ltb, le-ltb, eq-eqb, leb-true}
+use Rattle.bits.specs.Bits.{bitsN, bitsOf, field, AllBytes}
+use Rattle.bits.specs.Fill.{filled}
+use Rattle.bits.specs.Layout.{pack, element}
+use Rattle.bits.proofs.Bytes.{length-bitsOf, length-bytesN}
+use Rattle.bits.proofs.Filling.{filled-none}
+use Rattle.blocks.specs.Widths.{entryOf, widthOf}
+use Rattle.blocks.specs.Sdu.{fillTold}
+use Rattle.blocks.specs.Sync.{syncLayout, syncParts, syncOf}
+use Rattle.blocks.specs.Header.{sduAt, fieldsOf, headerOf, readHeader}
+use Rattle.blocks.specs.Faults.{GivenFirst}
+use Rattle.blocks.specs.declared.header.Header.{Header}
+use Rattle.blocks.specs.Continuation.{continuationParts}
+use Rattle.bits.specs.Runs.{joined}
+use Rattle.blocks.specs.Slots.{fitsHeader, inHeader}
+use Rattle.blocks.specs.Plan.{fragmentedFor, blocksFor, runFits, buildFault}
+use Rattle.blocks.specs.Build.{shapeFor, headerParts, headerBlock, continuationBlock, continuationBlocks, builtBits, builtAs, buildOf, outOf, schS, schH, schFs, readAll, expected, blockBits}
+use Rattle.blocks.proofs.FaultLaws.{given-first}
+use Rattle.blocks.proofs.RangeLaws as fields
+use Rattle.blocks.proofs.JoinLaws.{built-reads, built-blocks, built-joined}
+use Rattle.blocks.proofs.RebuildLaws.{read-is, in-range-again, fits-header, rebuilt, length-s, length-h}
+use Rattle.demands.specs.Demand2.{Call, bits, h, k, answer, after, InRange, checks, built, headerBack, headerMessage, padded, Demand2}
+
+-- a room that the message fills has no fill
+full-room : (room : ℕ) (m : List Bool) → length m ≡ room → (fillTold room m ≡ 0) × (filled room m ≡ m)
+full-room room m e = (rw (le-ltb (length m) room (omega arith)) refl, rw (← e) (filled-none m))
+
+-- ---- a call in range, as the laws of `blocks` have it
+
+either : (t : Bool) → cond t true true ≡ true
+either true = refl
+either false = refl
+
+module _ (c : Call) (r : InRange c) where
+  header-holds : cond (fitsHeader (h c) (c .n)) true (leb (h c) 120) ≡ true
+  header-holds =
+      ⊎-elim (λ (l : c .n + h c ≤ 124). rw (le-leb (c .n + h c) 124 l) refl)
+      (λ (l : h c + 4 ≤ 124). rw (le-leb (h c) 120 (omega arith)) (either (fitsHeader (h c) (c .n)))) (r .header)
+
+  run-holds : runFits (c .fields .message) (c .fields .width) (c .fields .elements) ≡ true
+  unfolding runFits
+  run-holds =
+      rw (
+        le-leb (entryOf (c .fields .message) .width) 254 (r .listed),
+        lt-ltb (c .fields .elements) (2 ^ c .fields .width) (r .elements),
+        eq-eqb (widthOf (entryOf (c .fields .message)) (bitsN (c .fields .width) (c .fields .elements))) (c .fields .width) (r .table),
+      ) refl
+
+  all-lent : length (bits c) ≡ c .n
+  all-lent = let l = r .lent in rw (length-take (c .n) (bitsOf (c .message))) (omega (arith, length-bitsOf (c .message)))
+
+  module _ (few : k c ≤ 15) where
+    ranged : {lent : ℕ} → 24 + 34 * k c ≤ lent → fields.InRange (c .sync) (c .countdown) (c .fields) (c .n) (length (c .message)) lent
+    ranged room =
+        record {
+          lowest = r .system .0;
+          highest = r .system .1;
+          first-frame = r .frame .0;
+          last-frame = r .frame .1;
+          usage = r .usage;
+          slot = r .slot;
+          countdown-small = r .countdown;
+          mni = r .mni;
+          message = r .message;
+          to-fits = r .destination .ssi;
+          from-fits = r .source .ssi;
+          run = run-holds;
+          lent-bits = r .lent;
+          to = r .destination .kind;
+          from = r .source .kind;
+          listed = r .listed;
+          header = header-holds;
+          count = few;
+          room = room;
+        }
+
+    -- the same of the message's own bits
+    whole : fields.InRange (c .sync) (c .countdown) (c .fields) (length (bits c)) (length (c .message)) (24 + 34 * k c)
+    whole = rw all-lent (ranged {lent = 24 + 34 * k c} (omega arith))
+
+    builds : 24 + 34 * k c ≤ length (c .out) → (answer c ≡ record { fault = 0; blocks = k c }) × (after c ≡ built c ++ drop (24 + 34 * k c) (c .out))
+    unfolding buildOf outOf
+    builds room =
+        let l : length (built c) ≡ 24 + 34 * k c = length-bytesN (24 + 34 * blocksFor (c .fields) (length (bits c))) (builtBits (c .sync) (c .countdown) (c .fields) (bits c)) ∙ rw all-lent refl in
+        rw (fields.no-fault (ranged room)) (refl, ap (λ (n : ℕ). built c ++ drop n (c .out)) l)
+
+  -- ---- the layout
+
+  by-n : builtBits (c .sync) (c .countdown) (c .fields) (bits c)
+      ≡ (pack (syncParts (c .sync)) ++ headerBlock (fragmentedFor (c .fields) (c .n)) (k c) (c .countdown) (c .fields) (take (inHeader (h c) (c .n)) (bits c)))
+      ++ continuationBlocks (k c) (drop (inHeader (h c) (c .n)) (bits c))
+  unfolding builtBits
+  by-n =
+      ap (λ (n : ℕ). (pack (syncParts (c .sync)) ++ headerBlock (fragmentedFor (c .fields) n) (blocksFor (c .fields) n) (c .countdown) (c .fields) (take (inHeader (h c) n) (bits c)))
+      ++ continuationBlocks (blocksFor (c .fields) n) (drop (inHeader (h c) n) (bits c))) all-lent
+
+  unfragmented : c .n + h c ≤ 124
+      → (k c ≡ 0) × (builtBits (c .sync) (c .countdown) (c .fields) (bits c) ≡ pack (syncParts (c .sync)) ++ headerBlock 0 0 (c .countdown) (c .fields) (bits c))
+  unfragmented l =
+      let f : fitsHeader (h c) (c .n) ≡ true = le-leb (c .n + h c) 124 l in
+      let s = pack (syncParts (c .sync)) in (
+        rw (f, sub-self (c .n)) refl,
+        by-n
+            ∙ rw (f, sub-self (c .n))
+            (append-nil (s ++ headerBlock 0 0 (c .countdown) (c .fields) (take (c .n) (bits c)))
+            ∙ ap (λ (x : List Bool). s ++ headerBlock 0 0 (c .countdown) (c .fields) x) (take-all (c .n) (bits c) (omega (arith, all-lent)))),
+      )
+
+  fragmented : 124 < c .n + h c → let i = 120 - h c in
+      (264 * k c < c .n - i + 264) × (c .n - i ≤ 264 * k c) × (1 ≤ k c)
+      × (builtBits (c .sync) (c .countdown) (c .fields) (bits c)
+      ≡ (pack (syncParts (c .sync)) ++ (pack (headerParts 0 1 (k c) (c .countdown) (c .fields)) ++ padded (take i (bits c)))) ++ continuationBlocks (k c) (drop i (bits c)))
+  fragmented l =
+      let f : fitsHeader (h c) (c .n) ≡ false = lt-leb (c .n + h c) 124 l in
+      let small : h c ≤ 120 = ⊎-elim (λ (a : c .n + h c ≤ 124). absurd (omega arith)) (λ (a : h c + 4 ≤ 124). omega arith) (r .header) in
+      let i = 120 - h c in
+      let m = take i (bits c) in
+      let lm : length m ≡ i = rw (length-take i (bits c)) (omega (arith, all-lent)) in
+      let room : 124 - sduAt (shapeFor 1 (c .fields)) ≡ i = omega arith in
+      let full = full-room i m lm in
+      let blocks : k c ≡ (c .n - i + 263) / 264 = rw f refl in
+      (omega arith, omega arith, omega arith, by-n ∙ rw f (rw (room, full .0, full .1) refl))
+
+-- ---- the blocks
+
+frag : (j : ℕ) (r : List Bool) → 264 ≤ length r
+    → continuationBlocks (suc (suc j)) r ≡ (pack (continuationParts 0 0) ++ padded (take 264 r)) ++ continuationBlocks (suc j) (drop 264 r)
+frag j r l =
+    let full = full-room 264 (take 264 r) (rw (length-take 264 r) (omega arith)) in
+    rw (full .0, full .1) refl
+
+end-block : (r : List Bool) → length r ≤ 264 → continuationBlocks 1 r ≡ pack (continuationParts 1 (fillTold 264 r)) ++ padded (filled 264 r)
+end-block r l = append-nil (continuationBlock 1 (take 264 r)) ∙ rw (take-all 264 r l) refl
+
+-- ---- back again
+
+module _ (c : Call) (r : InRange c) (few : k c ≤ 15) (rest : List ℕ) where
+  header-back : readHeader (schS (built c ++ rest)) (schH (built c ++ rest)) ≡ headerBack c
+  header-back = rw (all-lent c r) (rw (all-lent c r) at (built-reads (bits c) (whole c r few) rest))
+
+  blocks-back : readAll (schFs (k c) (built c ++ rest)) ≡ expected (k c) (c .n - inHeader (h c) (c .n))
+  blocks-back = rw (all-lent c r) (rw (all-lent c r) at (built-blocks (bits c) (whole c r few) rest))
+
+  message-back : joined (headerMessage (schH (built c ++ rest)) ∷ blockBits (schFs (k c) (built c ++ rest))) ≡ bits c
+  message-back = rw (all-lent c r) (rw (all-lent c r) at (built-joined (bits c) (whole c r few) rest))
+
+-- ---- an unfragmented header, built again
+
+module _ (s b : List ℕ) (hs : AllBytes s) (hb : AllBytes b) (good : readHeader s b .fault ≡ 0) (plain : readHeader s b .fragmented ≡ 0)
+    (r₃ : element syncLayout 3 (bitsOf s) ≡ 0) (r₈ : element syncLayout 8 (bitsOf s) ≡ 0) (r₀ : field 0 10 (bitsOf b) ≡ 0) (lent out : List ℕ) where
+  abbrev again : Header → Call
+  again r = record { sync = r .sync; countdown = r .countdown; fields = r .fields; n = r .bits; message = lent; out = out }
+
+  abbrev read : Header
+  read = headerOf (syncOf (bitsOf s)) (bitsOf b)
+
+  rebuilds-read : take (read .bits) (bitsOf lent) ≡ headerMessage b → read .bits ≤ 8 * length lent → 24 ≤ length out
+      → (answer (again read) ≡ record { fault = 0; blocks = 0 }) × (after (again read) ≡ (s ++ b) ++ drop 24 out)
+  unfolding buildOf outOf
+  rebuilds-read m l o =
+      let none = fields.no-fault (in-range-again s b good plain r₃ r₈ r₀ l o) in
+      let n = length (headerMessage b) in
+      let k₀ : blocksFor (fieldsOf (bitsOf b)) n ≡ 0 = rw (fits-header s b good plain r₃ r₈ r₀, sub-self n) refl in
+      let l₂ : length (s ++ b) ≡ 24 = length-append s b ∙ omega (arith, length-s s b good plain r₃ r₈ r₀, length-h s b good plain r₃ r₈ r₀) in
+      rw (none, m) (
+        ap (builtAs 0) k₀,
+        ap (λ (x : List ℕ). x ++ drop (length x) out) (rebuilt s b good plain r₃ r₈ r₀ hs hb) ∙ ap (λ (x : ℕ). (s ++ b) ++ drop x out) l₂,
+      )
+
+  rebuilds : take (readHeader s b .bits) (bitsOf lent) ≡ headerMessage b → readHeader s b .bits ≤ 8 * length lent → 24 ≤ length out
+      → (answer (again (readHeader s b)) ≡ record { fault = 0; blocks = 0 }) × (after (again (readHeader s b)) ≡ (s ++ b) ++ drop 24 out)
+  rebuilds = rw (read-is s b good plain r₃ r₈ r₀) rebuilds-read
+
+-- ---- refusals
+
+answer-fault : (f n : ℕ) → builtAs f n .fault ≡ f
+answer-fault zero n = refl
+answer-fault (suc f) n = refl
+
+module _ (c : Call) where
+  abbrev fault : ℕ
+  fault = buildFault (c .sync) (c .countdown) (c .fields) (c .n) (length (c .message)) (length (c .out))
+
+  fault-is : answer c .fault ≡ fault
+  unfolding buildOf
+  fault-is = answer-fault fault (k c)
+
+  header-when : (t : Bool) → fitsHeader (h c) (c .n) ≡ t → cond t true (leb (h c) 120) ≡ true → (c .n + h c ≤ 124) ⊎ (h c + 4 ≤ 124)
+  header-when true f e = inl (leb-true (c .n + h c) 124 f)
+  header-when false f e = let l = leb-true (h c) 120 e in inr (omega arith)
+
+  taken : answer c .fault ≡ 0 → InRange c × (k c ≤ 15) × (24 + 34 * k c ≤ length (c .out))
+  taken e =
+      let r = fields.in-range (c .sync) (c .countdown) (c .fields) (c .n) (length (c .message)) (length (c .out)) (sym fault-is ∙ e) in (
+        record {
+          system = (r .lowest, r .highest);
+          frame = (r .first-frame, r .last-frame);
+          usage = r .usage;
+          slot = r .slot;
+          countdown = r .countdown-small;
+          destination = record { kind = r .to; ssi = r .to-fits };
+          source = record { kind = r .from; ssi = r .from-fits };
+          mni = r .mni;
+          message = r .message;
+          listed = r .listed;
+          table = fields.width-is r;
+          elements = fields.elements-fit r;
+          lent = r .lent-bits;
+          header = header-when (fitsHeader (h c) (c .n)) refl (r .header);
+        },
+        r .count,
+        r .room,
+      )
+
+  refused : (n : ℕ) → answer c .fault ≡ suc n → GivenFirst n (checks c) × (answer c .blocks ≡ 0) × (after c ≡ c .out)
+  unfolding buildFault buildOf outOf
+  refused n e =
+      let f : fault ≡ suc n = sym fault-is ∙ e in
+      (given-first n (checks c) f, rw f refl, rw f refl)
+
+-- ---- two builds
+
+different : (c d : Call) → InRange c → InRange d → k c ≤ 15 → k d ≤ 15 → built c ≡ built d
+    → (c .sync ≡ d .sync) × (c .countdown ≡ d .countdown) × (c .fields ≡ d .fields) × (bits c ≡ bits d)
+different c d rc rd fc fd e =
+    let same : headerBack c ≡ headerBack d =
+    sym (header-back c rc fc []) ∙ ap (λ (x : List ℕ). readHeader (schS (x ++ [])) (schH (x ++ []))) e ∙ header-back d rd fd [] in
+    let counts : k c ≡ k d = ap (λ (x : Header). x .count) same in (
+      ap (λ (x : Header). x .sync) same,
+      ap (λ (x : Header). x .countdown) same,
+      ap (λ (x : Header). x .fields) same,
+      sym (message-back c rc fc [])
+          ∙ ap₂ (λ (x : List ℕ) (n : ℕ). joined (headerMessage (schH (x ++ [])) ∷ blockBits (schFs n (x ++ [])))) e counts
+          ∙ message-back d rd fd [],
+    )
+
+-- ---- the demand
+
+pub demand2 : Demand2
+demand2 =
+    record {
+      builds = λ c r few room. builds c r few room;
+      unfragmented = λ c r. unfragmented c r;
+      fragmented = λ c r. fragmented c r;
+      frag = frag;
+      end = end-block;
+      header-back = λ c r few rest. header-back c r few rest;
+      blocks-back = λ c r few rest. blocks-back c r few rest;
+      message-back = λ c r few rest. message-back c r few rest;
+      rebuilds = λ s b hs hb good plain r₃ r₈ r₀ lent out. rebuilds s b hs hb good plain r₃ r₈ r₀ lent out;
+      taken = taken;
+      refused = refused;
+      different = different;
+    }

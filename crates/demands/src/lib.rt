@@ -1,0 +1,1 @@
+// The demands and the examples, stated and proved over the crates below; this crate has no code of its own.

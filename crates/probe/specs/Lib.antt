@@ -1,0 +1,3 @@
+-- The definitions that the contracts of `probe` cite.
+pub mod Body
+pub mod Lines

@@ -1,0 +1,46 @@
+// Records from standard input.
+ghost use Rattle.io.specs.Counts.{Counts};
+ghost use Rattle.probe.specs.Lines.{Held};
+use crate::body::two;
+use libc::STDIN_FILENO;
+
+// What was read: a record's kind and the length of its body, which stands at the buffer's start.
+pub enum Taken {
+    Record(u16, usize),
+    Cut,
+    End,
+}
+
+// Reads `n` bytes to the start of `run`, and answers how many of them were there.
+fn fill(run: &mut [u8], n: usize) -> usize
+    ensures { λ r. ⌜ Counts r (now (run .exit)) ⌝ }
+{
+    if run.len() < n {
+        return 0;
+    }
+    io::read_full(STDIN_FILENO, &mut run[..n])
+}
+
+// Takes the next record.
+pub fn take(body: &mut [u8]) -> Taken
+    ensures { λ r. ⌜ Held r (now (body .exit)) ⌝ }
+{
+    let mut head = [0u8; 4];
+    let got = io::read_full(STDIN_FILENO, &mut head);
+    if got == 0 {
+        return Taken::End;
+    }
+    let length = two(head[0], head[1]) as usize;
+    if got < 4 {
+        return Taken::Cut;
+    }
+    if length < 2 {
+        return Taken::Cut;
+    }
+    let n = length - 2;
+    let came = fill(body, n);
+    if came != n {
+        return Taken::Cut;
+    }
+    Taken::Record(two(head[2], head[3]), came)
+}

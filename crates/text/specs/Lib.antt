@@ -1,0 +1,2 @@
+-- The definitions that the contracts of `text` cite.
+pub mod Text

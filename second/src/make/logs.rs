@@ -1,0 +1,506 @@
+//! Random slot logs: messages in their slots with their repeats, then mutated.
+
+use super::parts::{damage_continuation, draw_continuation, record};
+use super::parts::{Message, Raw, Unit, HEADER_FAULTS};
+use super::rng::Rng;
+use crate::blocks::NO_ADDRESS;
+use crate::layout::{due_frame, next_frame};
+
+/// A report to be written. `due`: a continuation block was sent here.
+#[derive(Clone)]
+pub struct Slot {
+    pub frame: u8,
+    pub slot: u8,
+    pub kind: u8,
+    pub blocks: Vec<u8>,
+    due: bool,
+}
+
+impl Slot {
+    fn nothing((frame, slot): (u8, u8)) -> Slot {
+        Slot {
+            frame,
+            slot,
+            kind: 1,
+            blocks: Vec::new(),
+            due: false,
+        }
+    }
+
+    fn put(&mut self, kind: u8, blocks: Vec<u8>) {
+        self.kind = kind;
+        self.blocks = blocks;
+    }
+
+    fn place(&self) -> (u8, u8) {
+        (self.frame, self.slot)
+    }
+
+    /// True if a report of this slot is not refused for its frame or slot.
+    fn is_told(&self) -> bool {
+        (1..=18).contains(&self.frame) && (self.slot == 1 || self.slot == 3)
+    }
+
+    fn record(&self) -> Vec<u8> {
+        let body = [&[self.frame, self.slot], &self.blocks[..]].concat();
+        record(self.kind.into(), &body)
+    }
+}
+
+/// The slot that comes after a slot.
+fn after((frame, slot): (u8, u8)) -> (u8, u8) {
+    match slot {
+        1 => (frame, 3),
+        _ => (next_frame(frame), 1),
+    }
+}
+
+/// A whole slot log.
+pub fn log(seed: u64) -> Vec<u8> {
+    let mut rng = Rng::new(seed, 1);
+    let unit = Unit::draw(&mut rng);
+    let target = rng.index(320) + 50;
+    let mut slots = episodes(&mut rng, &unit, target);
+    slots.truncate(400);
+    let mut records: Vec<Vec<u8>> = slots.iter().map(Slot::record).collect();
+    for _ in 0..rng.below(4) {
+        let at = rng.index(records.len());
+        records.insert(at, odd_record(&mut rng));
+    }
+    if rng.chance(25) {
+        let at = records.len() - rng.index(records.len() / 10 + 1);
+        records.insert(at, cut_record(&mut rng));
+    }
+    let first = if rng.chance(5) {
+        no_unit(&mut rng, &unit)
+    } else {
+        unit.record()
+    };
+    [first, records.concat()].concat()
+}
+
+/// A record that prints `kind`.
+fn odd_record(rng: &mut Rng) -> Vec<u8> {
+    let (kind, length) = match rng.below(5) {
+        0 => (
+            rng.pick(&[4, 5, 9, 255, 256, 257, 513, 65_535]),
+            rng.index(40),
+        ),
+        1 => (0, rng.index(3) + 12),
+        2 => (1, rng.index(34) + 3),
+        3 => (2, rng.index(10) + 27),
+        _ => (3, rng.index(10) + 37),
+    };
+    record(kind, &rng.bytes(length))
+}
+
+/// A record that prints `cut`; whatever comes after it is not read.
+fn cut_record(rng: &mut Rng) -> Vec<u8> {
+    match rng.below(4) {
+        0 => vec![rng.below(2) as u8, 0],
+        1 => vec![0xFF, 0xFF, 1, 0, 5, 1],
+        2 => vec![4, 0x80, 1, 0],
+        _ => {
+            let (kind, length) = rng.pick(&[(0, 12), (1, 2), (2, 26), (3, 36)]);
+            let shorter = rng.index(length);
+            record(kind, &rng.bytes(shorter))
+        }
+    }
+}
+
+/// A first record that prints `unit`.
+fn no_unit(rng: &mut Rng, unit: &Unit) -> Vec<u8> {
+    let large = 1 << 24;
+    let mut wrong = unit.clone();
+    match rng.below(6) {
+        0 => return Vec::new(),
+        1 => return record(0, &rng.bytes(11)),
+        2 => return record(0, &[0; 13]),
+        3 => wrong.individual = large,
+        4 => wrong.group = large,
+        _ => wrong.mni = large,
+    }
+    wrong.record()
+}
+
+/// Reports of so many slots, and on to the end of the last run.
+pub fn episodes(rng: &mut Rng, unit: &Unit, target: usize) -> Vec<Slot> {
+    let mut slots: Vec<Slot> = Vec::new();
+    let mut place = draw_place(rng);
+    while slots.len() < target {
+        if rng.chance(15) {
+            place = draw_place(rng);
+        }
+        place = idle(rng, &mut slots, place);
+        let mut run = draw_run(rng, unit, place.0);
+        for _ in 0..rng.pick(&[0, 0, 1, 1, 2, 2, 3, 4]) {
+            mutate(rng, unit, &mut run);
+        }
+        slots.extend(run);
+        place = after(last_place(&slots).unwrap_or(place));
+    }
+    slots
+}
+
+/// The last slot told of; a refused report has not happened.
+fn last_place(slots: &[Slot]) -> Option<(u8, u8)> {
+    slots
+        .iter()
+        .rev()
+        .find(|slot| slot.is_told())
+        .map(Slot::place)
+}
+
+/// A slot to begin with, often near frame 18.
+fn draw_place(rng: &mut Rng) -> (u8, u8) {
+    let frame = match rng.below(2) {
+        0 => rng.between(14, 18),
+        _ => rng.between(1, 18),
+    };
+    (frame as u8, rng.pick(&[1, 3]))
+}
+
+/// Some slots of nothing, up to a slot 1.
+fn idle(rng: &mut Rng, slots: &mut Vec<Slot>, mut place: (u8, u8)) -> (u8, u8) {
+    let mut count = if rng.chance(5) {
+        rng.below(40)
+    } else {
+        rng.below(4)
+    };
+    while count > 0 || place.1 == 3 {
+        slots.push(Slot::nothing(place));
+        place = after(place);
+        count = count.saturating_sub(1);
+    }
+    place
+}
+
+/// One message in its slots, or two unfragmented ones in turn.
+fn draw_run(rng: &mut Rng, unit: &Unit, x: u8) -> Vec<Slot> {
+    let f = rng.below(4) as u8;
+    match rng.below(20) {
+        0 => longest(rng, unit, x),
+        1..=9 => send(&for_this_unit(rng, unit, true), x, f),
+        10..=14 => send(&for_this_unit(rng, unit, false), x, f),
+        15 => send(&for_another(rng, unit, true), x, f),
+        16 => send(&for_another(rng, unit, false), x, f),
+        17 => send_twice(&for_this_unit(rng, unit, true), x, f),
+        _ => {
+            let mut run = send(&for_this_unit(rng, unit, false), x, f);
+            let ours = rng.chance(50);
+            let other = draw_message(rng, unit, ours, false);
+            interleave(rng, &mut run, &send(&other, x, f));
+            run
+        }
+    }
+}
+
+/// Fourteen or fifteen blocks after four frames of headers, of which one is heard.
+fn longest(rng: &mut Rng, unit: &Unit, x: u8) -> Vec<Slot> {
+    let mut message = for_this_unit(rng, unit, true);
+    let n = rng.between(3_700, 3_964);
+    message.bits = rng.bits(n as usize);
+    let mut run = send(&message, x, 3);
+    let heard = if rng.chance(70) { 0 } else { rng.index(8) };
+    for at in (0..8).filter(|&at| at != heard) {
+        run[at].put(1, Vec::new());
+    }
+    run
+}
+
+/// A fragmented message and straight after it the whole of it again (8.5.4.1).
+fn send_twice(message: &Message, x: u8, f: u8) -> Vec<Slot> {
+    let mut run = send(message, x, f);
+    let (frame, _) = last_place(&run).unwrap_or((x, 3));
+    run.push(Slot::nothing((frame, 3)));
+    run.extend(send(message, next_frame(frame), f));
+    run
+}
+
+fn draw_message(rng: &mut Rng, unit: &Unit, ours: bool, fragmented: bool) -> Message {
+    match ours {
+        true => for_this_unit(rng, unit, fragmented),
+        false => for_another(rng, unit, fragmented),
+    }
+}
+
+fn for_this_unit(rng: &mut Rng, unit: &Unit, fragmented: bool) -> Message {
+    let mut message = Message::draw(rng, fragmented);
+    message.fields.dest = rng.pick(&[unit.individual, unit.group]);
+    message.fields.mni = unit.mni;
+    message
+}
+
+/// Another address, another MNI, a pseudo address, or none.
+fn for_another(rng: &mut Rng, unit: &Unit, fragmented: bool) -> Message {
+    let mut message = for_this_unit(rng, unit, fragmented);
+    let fields = &mut message.fields;
+    match rng.below(4) {
+        0 => fields.dest ^= 1 << rng.below(24),
+        1 => fields.mni ^= 1 << rng.below(24),
+        2 => fields.dest_type = 1,
+        _ => (fields.dest_type, fields.dest) = (NO_ADDRESS, 0),
+    }
+    message
+}
+
+/// A message in its slots: the header with its repeats, then the blocks, nothing between.
+fn send(message: &Message, x: u8, f: u8) -> Vec<Slot> {
+    let mut slots = Vec::new();
+    let mut place = (x, 1);
+    for _ in 0..2 * (f + 1) {
+        let countdown = f - slots.len() as u8 / 2;
+        let header = message.blocks(place.0, place.1, countdown).remove(0);
+        place = push(&mut slots, place, 2, header);
+    }
+    for (i, block) in message.blocks(x, 1, f).into_iter().skip(1).enumerate() {
+        while Ok(place.0) != due_frame(x, f, i as u8) || place.1 != 1 {
+            place = push(&mut slots, place, 1, Vec::new());
+        }
+        place = push(&mut slots, place, 3, block);
+    }
+    slots
+}
+
+fn push(slots: &mut Vec<Slot>, place: (u8, u8), kind: u8, blocks: Vec<u8>) -> (u8, u8) {
+    let mut slot = Slot::nothing(place);
+    slot.put(kind, blocks);
+    slot.due = kind == 3;
+    slots.push(slot);
+    after(place)
+}
+
+/// Puts what another run brings into some slots of this one.
+fn interleave(rng: &mut Rng, run: &mut [Slot], other: &[Slot]) {
+    let always = rng.chance(30);
+    for (slot, other) in run.iter_mut().zip(other) {
+        let empty = slot.kind == 1 && other.kind != 1;
+        if empty || (other.kind != 1 && (always || rng.chance(50))) {
+            slot.put(other.kind, other.blocks.clone());
+        }
+    }
+}
+
+/// One change to a run of slots.
+fn mutate(rng: &mut Rng, unit: &Unit, run: &mut Vec<Slot>) {
+    match rng.below(24) {
+        0 => miss(rng, run),
+        1 => other_kind_of_block(rng, run),
+        2 | 3 => stray_header(rng, unit, run, false),
+        4 => stray_header(rng, unit, run, true),
+        5 => stray_block(rng, run),
+        6 | 23 => damaged_block(rng, run),
+        7..=11 => damaged_header(rng, run),
+        12 => other_fill(rng, run),
+        13 => touched_header(rng, run),
+        14 => other_countdown(rng, run),
+        15 => own_header_again(rng, run),
+        16 | 17 => break_in(rng, run),
+        18 => refused_report(rng, run),
+        19 | 20 => second_sender(rng, unit, run),
+        21 => few_headers_left(rng, run),
+        _ => eighteen_frames_later(rng, run),
+    }
+}
+
+/// The index of a slot of this kind.
+fn any_of(rng: &mut Rng, run: &[Slot], kind: u8) -> Option<usize> {
+    any(rng, run, |slot| slot.kind == kind)
+}
+
+fn any(rng: &mut Rng, run: &[Slot], wanted: impl Fn(&Slot) -> bool) -> Option<usize> {
+    let found: Vec<usize> = (0..run.len()).filter(|&at| wanted(&run[at])).collect();
+    (!found.is_empty()).then(|| rng.pick(&found))
+}
+
+/// A slot where something is to go wrong: one with a due block, or any.
+fn target(rng: &mut Rng, run: &[Slot]) -> usize {
+    match any(rng, run, |slot| slot.due) {
+        Some(due) if rng.chance(40) => due,
+        _ => rng.index(run.len()),
+    }
+}
+
+fn miss(rng: &mut Rng, run: &mut [Slot]) {
+    if let Some(at) = any(rng, run, |slot| slot.kind != 1) {
+        run[at].put(1, Vec::new());
+    }
+}
+
+/// DMAC-FRAG for DMAC-END, or the other way round.
+fn other_kind_of_block(rng: &mut Rng, run: &mut [Slot]) {
+    if let Some(at) = any_of(rng, run, 3) {
+        run[at].blocks[0] ^= 0x20;
+    }
+}
+
+/// A header of another message, for this unit or another one, now and then with repeats.
+fn stray_header(rng: &mut Rng, unit: &Unit, run: &mut [Slot], fragmented: bool) {
+    let ours = rng.chance(50);
+    let message = draw_message(rng, unit, ours, fragmented);
+    let (first, f) = (target(rng, run), rng.below(4) as u8);
+    let repeats = rng.pick(&[1, 1, 2, 3]);
+    let mut told: Vec<&mut Slot> = run[first..]
+        .iter_mut()
+        .filter(|slot| slot.is_told())
+        .collect();
+    let x = told.first().map_or(1, |slot| slot.frame);
+    for slot in told.iter_mut().take(repeats) {
+        let gone = (slot.frame + 18 - x) % 18;
+        if gone <= f {
+            let header = message.blocks(slot.frame, slot.slot, f - gone).remove(0);
+            slot.put(2, header);
+        }
+    }
+}
+
+/// A continuation block where none may be due.
+fn stray_block(rng: &mut Rng, run: &mut [Slot]) {
+    let at = rng.index(run.len());
+    let last = rng.chance(50);
+    run[at].put(3, draw_continuation(rng, last));
+}
+
+/// Some blocks with a fault.
+fn damaged_block(rng: &mut Rng, run: &mut [Slot]) {
+    for _ in 0..rng.between(1, 3) {
+        if let Some(at) = any_of(rng, run, 3) {
+            let fault = rng.pick(&[2, 12, 11]);
+            damage_continuation(rng, &mut run[at].blocks, fault);
+        }
+    }
+}
+
+/// Some headers with one fault, or with two.
+fn damaged_header(rng: &mut Rng, run: &mut [Slot]) {
+    for _ in 0..rng.between(1, 3) {
+        change_header(rng, run, |rng, raw| {
+            for _ in 0..rng.pick(&[1, 1, 1, 2]) {
+                let fault = if rng.chance(10) {
+                    18
+                } else {
+                    rng.pick(&HEADER_FAULTS)
+                };
+                raw.damage(rng, fault);
+            }
+        });
+    }
+}
+
+/// Changes one well-formed header.
+fn change_header(rng: &mut Rng, run: &mut [Slot], change: impl Fn(&mut Rng, &mut Raw)) {
+    let Some(at) = any_of(rng, run, 2) else {
+        return;
+    };
+    if let Some(mut raw) = Raw::of(&run[at].blocks) {
+        change(rng, &mut raw);
+        run[at].blocks = raw.bytes();
+    }
+}
+
+/// A block of the same kind with other message bits: fill in a DMAC-FRAG, no bits at all.
+fn other_fill(rng: &mut Rng, run: &mut [Slot]) {
+    if let Some(at) = any_of(rng, run, 3) {
+        let last = run[at].blocks[0] & 0x20 != 0;
+        run[at].blocks = draw_continuation(rng, last);
+    } else {
+        change_header(rng, run, |rng, raw| raw.touch(rng));
+    }
+}
+
+fn touched_header(rng: &mut Rng, run: &mut [Slot]) {
+    change_header(rng, run, |rng, raw| raw.touch(rng));
+}
+
+fn other_countdown(rng: &mut Rng, run: &mut [Slot]) {
+    change_header(rng, run, |rng, raw| raw.sch_h.countdown = rng.below(4));
+}
+
+/// One of the run's headers once more, with a countdown that may or may not fit.
+fn own_header_again(rng: &mut Rng, run: &mut [Slot]) {
+    let Some(from) = any_of(rng, run, 2) else {
+        return;
+    };
+    if let Some(mut raw) = Raw::of(&run[from].blocks) {
+        let at = target(rng, run);
+        let slot = &mut run[at];
+        raw.sch_s.frame = slot.frame.into();
+        raw.sch_s.slot = u64::from(slot.slot) / 2 * 2;
+        raw.sch_h.countdown = rng.below(4);
+        slot.put(2, raw.bytes());
+    }
+}
+
+/// Skips slots, tells of one twice, goes back, or leaves the message for good.
+fn break_in(rng: &mut Rng, run: &mut Vec<Slot>) {
+    let at = rng.index(run.len());
+    let back = rng.index(at + 1);
+    match rng.below(4) {
+        0 => {
+            let end = run.len().min(at + rng.index(3) + 1);
+            run.drain(at..end);
+        }
+        1 => run.insert(at, run[at].clone()),
+        2 => {
+            let again: Vec<Slot> = run[back..=at].iter().take(4).cloned().collect();
+            run.splice(at + 1..at + 1, again);
+        }
+        _ => run.truncate(at + 1),
+    }
+    if run.is_empty() {
+        run.push(Slot::nothing((1, 1)));
+    }
+}
+
+/// A report that is refused, with whatever a neighbour brings.
+fn refused_report(rng: &mut Rng, run: &mut Vec<Slot>) {
+    let at = rng.index(run.len());
+    let mut slot = run[at].clone();
+    slot.due = false;
+    if rng.chance(50) {
+        slot.frame = rng.pick(&[0, 19, 20, 31, 50, 255]);
+    }
+    if slot.frame == run[at].frame || rng.chance(20) {
+        slot.slot = rng.pick(&[0, 2, 4, 5, 255]);
+    }
+    run.insert(at, slot);
+}
+
+/// A whole other message begins within this one.
+fn second_sender(rng: &mut Rng, unit: &Unit, run: &mut [Slot]) {
+    let Some(at) = any(rng, run, |slot| slot.is_told() && slot.slot == 1) else {
+        return;
+    };
+    let (ours, fragmented) = (rng.chance(50), rng.chance(40));
+    let message = draw_message(rng, unit, ours, fragmented);
+    let other = send(&message, run[at].frame, rng.below(4) as u8);
+    interleave(rng, &mut run[at..], &other);
+}
+
+/// Most headers were missed: one is left, or the first and the last, or a few.
+fn few_headers_left(rng: &mut Rng, run: &mut [Slot]) {
+    let headers: Vec<usize> = (0..run.len()).filter(|&at| run[at].kind == 2).collect();
+    let left = match (rng.below(3), &headers[..]) {
+        (_, []) => return,
+        (0, headers) => vec![rng.pick(headers)],
+        (1, headers) => vec![headers[0], headers[headers.len() - 1]],
+        (_, headers) => (0..3).map(|_| rng.pick(headers)).collect(),
+    };
+    for at in headers.into_iter().filter(|at| !left.contains(at)) {
+        run[at].put(1, Vec::new());
+    }
+}
+
+/// The same slot of the next multiframe brings a header again.
+fn eighteen_frames_later(rng: &mut Rng, run: &mut Vec<Slot>) {
+    let Some(from) = any(rng, run, |slot| slot.is_told() && slot.kind == 2) else {
+        return;
+    };
+    let (header, place) = (run[from].blocks.clone(), run[from].place());
+    let mut next = last_place(run).map_or(place, after);
+    while run.len() < from + 36 || next != place {
+        run.push(Slot::nothing(next));
+        next = after(next);
+    }
+    push(run, place, 2, header);
+}

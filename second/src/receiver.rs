@@ -1,0 +1,616 @@
+//! The receiver, by its history: it keeps every accepted report and answers each one by looking
+//! back over them. Nothing else is stored, so an open assembly is never a state, only a reading.
+
+use crate::bits::{fits, pack};
+use crate::blocks::{read_continuation, read_header, Continuation, Fields, Header, Place};
+use crate::blocks::{HEADER_BYTES, SCH_F_BYTES, SCH_S_BYTES, TRUE_ADDRESS};
+use crate::faults::{refuse, Fault};
+use crate::layout::{due_frame, next_frame};
+
+/// The shortest message buffer.
+pub const BUFFER: usize = 512;
+
+/// From a header to the last due slot are at most nineteen frames: F + 1, fourteen more blocks,
+/// and one frame 18. A header further back than this has no assembly open.
+const REPORTS_TO_LAST_DUE: usize = 38;
+
+/// The countdown is at most 3, so a repeat comes at most three frames, seven reports, later.
+const REPORTS_TO_LAST_REPEAT: usize = 7;
+
+/// What a report says. Kinds are the log's: 1 nothing, 2 SCH/S and SCH/H, 3 SCH/F.
+pub struct Report<'a> {
+    pub frame: u8,
+    pub slot: u8,
+    pub kind: u8,
+    pub blocks: &'a [u8],
+}
+
+/// What a report is answered. `header` has the message's addresses, MNI, type and elements.
+#[derive(Clone, Debug, Default, PartialEq, Eq)]
+pub struct Answer {
+    pub outcome: u8,
+    pub dropped: bool,
+    pub fault: Fault,
+    pub bits: usize,
+    pub header: Fields,
+}
+
+const NOTHING: u8 = 0;
+const UNFRAGMENTED: u8 = 1;
+const JOINED: u8 = 2;
+const OPENED: u8 = 3;
+const KEPT: u8 = 4;
+const COPY: u8 = 5;
+
+enum Heard {
+    Nothing,
+    Header(Header),
+    Block(Continuation),
+}
+
+/// An accepted report. `breaks`: it does not follow the one accepted before it.
+struct Accepted {
+    frame: u8,
+    slot: u8,
+    breaks: bool,
+    heard: Heard,
+}
+
+impl Accepted {
+    fn header(&self) -> Option<&Header> {
+        match &self.heard {
+            Heard::Header(header) => Some(header),
+            _ => None,
+        }
+    }
+
+    fn fragmented_header(&self) -> Option<&Header> {
+        self.header().filter(|header| header.fragmented)
+    }
+
+    fn block(&self) -> Option<&Continuation> {
+        match &self.heard {
+            Heard::Block(block) => Some(block),
+            _ => None,
+        }
+    }
+}
+
+/// The settings and all accepted reports. `Receiver::default()` is the fresh one with zeros.
+#[derive(Default)]
+pub struct Receiver {
+    individual: u64,
+    group: u64,
+    mni: u64,
+    history: Vec<Accepted>,
+}
+
+impl Receiver {
+    /// A fresh receiver, or fault 13.
+    pub fn fresh(individual: u64, group: u64, mni: u64) -> Result<Receiver, Fault> {
+        let settings = [individual, group, mni];
+        refuse(13, !settings.iter().all(|&number| fits(number, 24)))?;
+        Ok(Receiver {
+            individual,
+            group,
+            mni,
+            history: Vec::new(),
+        })
+    }
+
+    /// Answers one report, and writes a message handed over to the buffer's start.
+    pub fn report(&mut self, report: &Report, buffer: &mut [u8]) -> Answer {
+        let mut answer = Answer::default();
+        if let Err(fault) = check_report(report, buffer.len()) {
+            answer.fault = fault;
+            return answer;
+        }
+        answer.fault = self.accept(report);
+        let now = self.history.len() - 1;
+        let open = self.open_before(now);
+        answer.outcome = self.outcome(now, open);
+        answer.dropped = self.dropped(now, open);
+        if let Some((header, message)) = self.message(now, open, answer.outcome) {
+            let bytes = pack(&message);
+            buffer[..bytes.len()].copy_from_slice(&bytes);
+            answer.bits = message.len();
+            answer.header = header.fields.clone();
+        }
+        answer
+    }
+
+    /// Adds a report to the history. A block that reads with a fault counts as nothing heard.
+    fn accept(&mut self, report: &Report) -> Fault {
+        let (heard, fault) = match hear(report) {
+            Ok(heard) => (heard, 0),
+            Err(fault) => (Heard::Nothing, fault),
+        };
+        let last = self.history.last();
+        self.history.push(Accepted {
+            frame: report.frame,
+            slot: report.slot,
+            breaks: last.is_some_and(|last| !follows(last, report)),
+            heard,
+        });
+        fault
+    }
+
+    /// The header of the assembly that was open when report `now` came: the latest fragmented
+    /// header heard from anyone, if it was for this unit and blocks are still to come.
+    fn open_before(&self, now: usize) -> Option<usize> {
+        let earliest = now.saturating_sub(REPORTS_TO_LAST_DUE);
+        let fragmented = |&at: &usize| self.history[at].fragmented_header().is_some();
+        let opened = (earliest..now).rev().find(fragmented)?;
+        let open = self.is_for_this_unit(opened)
+            && self.stands(opened, now - 1)
+            && !self.is_whole(opened, now - 1);
+        open.then_some(opened)
+    }
+
+    /// The due slots after a fragmented header, as far as they were told of (rule 1).
+    fn due_slots(&self, opened: usize, upto: usize) -> Vec<usize> {
+        let mut due = Vec::new();
+        if let Some(header) = self.history[opened].fragmented_header() {
+            for at in opened + 1..=upto {
+                if is_due(header, due.len(), &self.history[at]) {
+                    due.push(at);
+                }
+            }
+        }
+        due
+    }
+
+    /// Nothing since has dropped the assembly: no break, no fragmented header (rule 2), and
+    /// every due slot brought a block of the due kind.
+    fn stands(&self, opened: usize, upto: usize) -> bool {
+        let since = &self.history[opened + 1..=upto];
+        let due = self.due_slots(opened, upto);
+        let drops = |report: &Accepted| report.breaks || report.fragmented_header().is_some();
+        let of_due_kind = |(i, &at): (usize, &usize)| {
+            let last = i + 1 == self.count(opened);
+            self.history[at]
+                .block()
+                .is_some_and(|block| block.last == last)
+        };
+        !since.iter().any(drops) && due.iter().enumerate().all(of_due_kind)
+    }
+
+    /// All due slots have come.
+    fn is_whole(&self, opened: usize, upto: usize) -> bool {
+        self.due_slots(opened, upto).len() == self.count(opened)
+    }
+
+    /// The number of SCH/F slots that a header tells of.
+    fn count(&self, at: usize) -> usize {
+        self.history[at]
+            .header()
+            .map_or(0, |header| header.count as usize)
+    }
+
+    fn outcome(&self, now: usize, open: Option<usize>) -> u8 {
+        match &self.history[now].heard {
+            Heard::Nothing => NOTHING,
+            Heard::Header(_) if !self.is_for_this_unit(now) => NOTHING,
+            Heard::Header(header) if header.fragmented => OPENED,
+            Heard::Header(_) if self.is_copy(now) => COPY,
+            Heard::Header(_) => UNFRAGMENTED,
+            Heard::Block(_) => match open {
+                Some(opened) if !self.keeps(opened, now) => NOTHING,
+                Some(opened) if self.is_whole(opened, now) => JOINED,
+                Some(_) => KEPT,
+                None => NOTHING,
+            },
+        }
+    }
+
+    /// Report `now` is in a due slot and the assembly stands.
+    fn keeps(&self, opened: usize, now: usize) -> bool {
+        self.due_slots(opened, now).last() == Some(&now) && self.stands(opened, now)
+    }
+
+    /// An open assembly ended without being handed over, and not by its own header's repeat.
+    fn dropped(&self, now: usize, open: Option<usize>) -> bool {
+        open.is_some_and(|opened| !self.stands(opened, now) && !self.repeats(opened, now))
+    }
+
+    /// The message handed over, with its header.
+    fn message(
+        &self,
+        now: usize,
+        open: Option<usize>,
+        outcome: u8,
+    ) -> Option<(&Header, Vec<bool>)> {
+        match outcome {
+            UNFRAGMENTED => {
+                let header = self.history[now].header()?;
+                Some((header, header.message().to_vec()))
+            }
+            JOINED => {
+                let header = self.history[open?].header()?;
+                Some((header, self.join(open?, now)))
+            }
+            _ => None,
+        }
+    }
+
+    /// The header's message bits and then those of the blocks in the due slots.
+    fn join(&self, opened: usize, upto: usize) -> Vec<bool> {
+        let header = self.history[opened].header();
+        let mut message = header.map_or(&[][..], Header::message).to_vec();
+        for at in self.due_slots(opened, upto) {
+            let block = self.history[at].block();
+            message.extend(block.map_or(&[][..], Continuation::message));
+        }
+        message
+    }
+
+    /// Rule 4: the nearest earlier well-formed header for this unit is repeated.
+    fn is_copy(&self, now: usize) -> bool {
+        let earliest = now.saturating_sub(REPORTS_TO_LAST_REPEAT);
+        let nearest = (earliest..now).rev().find(|&at| self.is_for_this_unit(at));
+        nearest.is_some_and(|earlier| self.repeats(earlier, now))
+    }
+
+    /// Rule 4's comparison of two headers: no break since, the same SCH/H bits but for the
+    /// countdown, and the earlier countdown is the later one plus the frames gone by since.
+    fn repeats(&self, earlier: usize, later: usize) -> bool {
+        let since = &self.history[earlier + 1..=later];
+        let frames = since.iter().filter(|report| report.slot == 1).count() as u64;
+        let headers = (self.history[earlier].header(), self.history[later].header());
+        let (Some(first), Some(second)) = headers else {
+            return false;
+        };
+        !since.iter().any(|report| report.breaks)
+            && first.but_for_countdown() == second.but_for_countdown()
+            && first.fields.countdown == second.fields.countdown + frames
+    }
+
+    /// Report `at` brought a well-formed header to one of our true addresses, with our MNI.
+    fn is_for_this_unit(&self, at: usize) -> bool {
+        self.history[at].header().is_some_and(|header| {
+            let fields = &header.fields;
+            fields.dest_type == TRUE_ADDRESS
+                && [self.individual, self.group].contains(&fields.dest)
+                && fields.mni == self.mni
+        })
+    }
+}
+
+/// Faults 15, 16, 1, 17: the report is refused and has not happened.
+fn check_report(report: &Report, buffer: usize) -> Result<(), Fault> {
+    refuse(15, !(1..=18).contains(&report.frame))?;
+    refuse(16, report.slot != 1 && report.slot != 3)?;
+    refuse(1, length_of(report.kind) != Some(report.blocks.len()))?;
+    refuse(17, buffer < BUFFER)
+}
+
+/// The bytes that a report of this kind brings.
+pub fn length_of(kind: u8) -> Option<usize> {
+    match kind {
+        1 => Some(0),
+        2 => Some(HEADER_BYTES),
+        3 => Some(SCH_F_BYTES),
+        _ => None,
+    }
+}
+
+fn hear(report: &Report) -> Result<Heard, Fault> {
+    let place = Place {
+        frame: report.frame,
+        slot: report.slot,
+    };
+    match report.kind {
+        2 => {
+            let (sch_s, sch_h) = report.blocks.split_at(SCH_S_BYTES);
+            read_header(sch_s, sch_h, Some(place)).map(Heard::Header)
+        }
+        3 => read_continuation(report.blocks).map(Heard::Block),
+        _ => Ok(Heard::Nothing),
+    }
+}
+
+/// After slot 1 comes slot 3 of the same frame, then slot 1 of the next.
+fn follows(last: &Accepted, report: &Report) -> bool {
+    let expected = match last.slot {
+        1 => (last.frame, 3),
+        _ => (next_frame(last.frame), 1),
+    };
+    (report.frame, report.slot) == expected
+}
+
+/// True if this header tells of a block i, and the report's slot is that block's.
+fn is_due(header: &Header, i: usize, report: &Accepted) -> bool {
+    let (x, f) = (header.fields.frame as u8, header.fields.countdown as u8);
+    let due = due_frame(x, f, i as u8);
+    (i as u64) < header.count && report.slot == 1 && due == Ok(report.frame)
+}
+
+#[cfg(test)]
+mod tests {
+    use super::*;
+    use crate::blocks::build;
+
+    /// A receiver with individual 1, group 2 and MNI 3, told of one slot after another.
+    struct Air {
+        receiver: Receiver,
+        last: Answer,
+        frame: u8,
+        slot: u8,
+        buffer: [u8; 600],
+    }
+
+    impl Air {
+        fn at(frame: u8, slot: u8) -> Air {
+            Air {
+                receiver: Receiver::fresh(1, 2, 3).unwrap(),
+                last: Answer::default(),
+                frame,
+                slot,
+                buffer: [0x5A; 600],
+            }
+        }
+
+        fn tell(&mut self, kind: u8, blocks: &[u8]) -> (u8, u8, u8, usize) {
+            let (frame, slot) = (self.frame, self.slot);
+            let report = Report {
+                frame,
+                slot,
+                kind,
+                blocks,
+            };
+            let answer = self.receiver.report(&report, &mut self.buffer);
+            (self.frame, self.slot) = match slot {
+                1 => (frame, 3),
+                _ => (next_frame(frame), 1),
+            };
+            self.last = answer.clone();
+            (
+                answer.outcome,
+                answer.dropped.into(),
+                answer.fault,
+                answer.bits,
+            )
+        }
+
+        /// A header for `dest` of n bits, sent here and now with this countdown.
+        fn header(&mut self, dest: u64, n: u64, countdown: u64) -> (u8, u8, u8, usize) {
+            let blocks = sent(dest, n, countdown, self.frame, self.slot);
+            self.tell(2, &blocks[..24])
+        }
+
+        /// Block i of a message of n bits.
+        fn block(&mut self, n: u64, i: usize) -> (u8, u8, u8, usize) {
+            let blocks = sent(1, n, 0, 1, 1);
+            self.tell(3, &blocks[24 + 34 * i..58 + 34 * i])
+        }
+
+        fn nothing(&mut self, count: usize) {
+            (0..count).for_each(|_| assert_eq!(self.tell(1, &[]), (0, 0, 0, 0)));
+        }
+    }
+
+    /// A DM-SDS DATA (h = 103: 21 bits unfragmented, 17 before blocks); all its bits are 1.
+    fn sent(dest: u64, n: u64, countdown: u64, frame: u8, slot: u8) -> Vec<u8> {
+        let fields = Fields {
+            system: 13,
+            slot: u64::from(slot) - 1,
+            frame: frame.into(),
+            countdown,
+            dest,
+            source: 9,
+            mni: 3,
+            message_type: 23,
+            width: 8,
+            ..Fields::default()
+        };
+        build(&fields, n, &[0xFF; 512], 1_024).unwrap().bytes
+    }
+
+    const OPENED_NEW: (u8, u8, u8, usize) = (3, 0, 0, 0);
+    const KEPT_ONE: (u8, u8, u8, usize) = (4, 0, 0, 0);
+    const LOST: (u8, u8, u8, usize) = (0, 1, 0, 0);
+    const UNTOUCHED: (u8, u8, u8, usize) = (0, 0, 0, 0);
+
+    #[test]
+    fn two_blocks_past_frame_18() {
+        let n = 17 + 264 + 3;
+        let mut air = Air::at(17, 1);
+        assert_eq!(air.header(1, n, 0), OPENED_NEW);
+        assert_eq!(air.header(1, n, 0), OPENED_NEW);
+        assert_eq!(
+            air.block(n, 0),
+            UNTOUCHED,
+            "slot 1 of frame 18 is no due slot"
+        );
+        air.nothing(1);
+        assert_eq!(air.block(n, 0), KEPT_ONE);
+        assert_eq!(air.block(n, 1), UNTOUCHED, "slot 3 is no due slot");
+        assert_eq!(air.buffer, [0x5A; 600]);
+        assert_eq!(air.block(n, 1), (2, 0, 0, 284));
+        assert_eq!(air.buffer[..35], [0xFF; 35]);
+        assert_eq!(air.buffer[35], 0xF0);
+        assert_eq!(air.buffer[36..], [0x5A; 564]);
+        assert_eq!(air.block(n, 1), UNTOUCHED);
+    }
+
+    #[test]
+    fn header_fields_of_a_joined_message() {
+        let mut air = Air::at(4, 3);
+        air.header(2, 30, 0);
+        assert_eq!(air.last.header, Fields::default());
+        assert_eq!(air.block(30, 0), (2, 0, 0, 30));
+        let header = &air.last.header;
+        assert_eq!((header.dest, header.source, header.mni), (2, 9, 3));
+        assert_eq!((header.message_type, header.width), (23, 8));
+    }
+
+    /// An assembly of two blocks, open before its first due slot, frame 6 slot 1.
+    fn open() -> Air {
+        let mut air = Air::at(5, 3);
+        assert_eq!(air.header(1, 300, 0), OPENED_NEW);
+        air
+    }
+
+    #[test]
+    fn what_drops_in_a_due_slot() {
+        assert_eq!(open().tell(1, &[]), LOST);
+        assert_eq!(open().block(300, 1), LOST, "END before the last due slot");
+        assert_eq!(open().tell(3, &[0; 34]), (0, 1, 12, 0));
+        assert_eq!(open().header(7, 5, 0), LOST, "another unit's");
+        assert_eq!(open().header(2, 5, 0), (1, 1, 0, 5));
+        assert_eq!(open().header(1, 300, 0), (3, 1, 0, 0));
+        let mut air = open();
+        air.block(300, 0);
+        air.nothing(1);
+        assert_eq!(air.block(300, 0), LOST, "FRAG in the last due slot");
+        assert_eq!(air.block(300, 1), UNTOUCHED);
+    }
+
+    #[test]
+    fn what_comes_between_due_slots() {
+        let with = |between: fn(&mut Air) -> (u8, u8, u8, usize)| {
+            let mut air = open();
+            air.block(300, 0);
+            (between(&mut air), air.block(300, 1).0)
+        };
+        assert_eq!(with(|air| air.block(300, 1)), (UNTOUCHED, 2));
+        assert_eq!(with(|air| air.tell(3, &[0; 34])), ((0, 0, 12, 0), 2));
+        assert_eq!(with(|air| air.header(7, 5, 0)), (UNTOUCHED, 2));
+        assert_eq!(with(|air| air.header(1, 5, 0)), ((1, 0, 0, 5), 2));
+        assert_eq!(with(|air| air.header(7, 300, 0)), (LOST, 0));
+        assert_eq!(with(|air| air.header(1, 300, 0)), ((3, 1, 0, 0), 0));
+    }
+
+    #[test]
+    fn a_break_drops() {
+        let mut air = open();
+        air.frame = 7;
+        assert_eq!(air.block(300, 0), LOST);
+        let mut air = open();
+        (air.frame, air.slot) = (5, 3);
+        assert_eq!(air.header(1, 300, 0), (3, 1, 0, 0), "told of twice");
+    }
+
+    #[test]
+    fn repeats_of_the_open_assemblys_header() {
+        let mut air = Air::at(17, 1);
+        assert_eq!(air.header(1, 300, 2), OPENED_NEW);
+        assert_eq!(air.header(2, 5, 0), (1, 0, 0, 5));
+        assert_eq!(air.header(1, 300, 1), OPENED_NEW);
+        assert_eq!(
+            air.header(1, 300, 2),
+            (3, 1, 0, 0),
+            "the countdown does not fit"
+        );
+        assert_eq!(air.header(1, 300, 1), OPENED_NEW);
+        assert_eq!(air.header(7, 300, 1), LOST);
+        assert_eq!(air.header(1, 300, 0), OPENED_NEW, "none was open");
+    }
+
+    #[test]
+    fn copies() {
+        let mut air = Air::at(18, 1);
+        assert_eq!(air.header(1, 5, 3).0, 1);
+        assert_eq!(air.header(1, 5, 3).0, 5);
+        assert_eq!(air.header(1, 5, 2).0, 5);
+        assert_eq!(air.header(7, 5, 2).0, 0);
+        assert_eq!(
+            air.header(1, 5, 1).0,
+            5,
+            "a header for another unit between"
+        );
+        assert_eq!(air.header(1, 6, 1).0, 1);
+        assert_eq!(
+            air.header(1, 5, 0).0,
+            1,
+            "another header for this unit between"
+        );
+        assert_eq!(air.header(1, 5, 1).0, 1, "the countdown does not fit");
+    }
+
+    #[test]
+    fn no_copy_after_a_break_or_eighteen_frames() {
+        let mut air = Air::at(3, 1);
+        assert_eq!(air.header(1, 5, 1).0, 1);
+        (air.frame, air.slot) = (3, 1);
+        assert_eq!(air.header(1, 5, 1).0, 1, "a break at this report");
+        air.nothing(35);
+        assert_eq!((air.frame, air.slot), (3, 1));
+        assert_eq!(air.header(1, 5, 1).0, 1, "eighteen frames later");
+    }
+
+    #[test]
+    fn the_last_repeat_comes_seven_reports_later() {
+        let mut air = Air::at(3, 1);
+        assert_eq!(air.header(1, 5, 3).0, 1);
+        air.nothing(6);
+        assert_eq!(air.header(1, 5, 0).0, 5);
+    }
+
+    #[test]
+    fn the_last_block_comes_thirty_eight_reports_later() {
+        let n = 17 + 15 * 264;
+        let mut air = Air::at(5, 1);
+        air.header(1, n, 3);
+        air.nothing(7);
+        for i in 0..14 {
+            assert_eq!(air.block(n, i), KEPT_ONE);
+            air.nothing(if air.frame == 17 { 3 } else { 1 });
+        }
+        assert_eq!(air.receiver.history.len(), 38);
+        assert_eq!(air.block(n, 14), (2, 0, 0, 3_977));
+    }
+
+    #[test]
+    fn a_refused_report_has_not_happened() {
+        let mut air = open();
+        let mut refused = |frame, slot, kind, blocks: &[u8], buffer: usize| {
+            let report = Report {
+                frame,
+                slot,
+                kind,
+                blocks,
+            };
+            air.receiver
+                .report(&report, &mut air.buffer[..buffer])
+                .fault
+        };
+        assert_eq!(refused(0, 2, 9, &[], 0), 15);
+        assert_eq!(refused(19, 1, 1, &[], 512), 15);
+        assert_eq!(refused(18, 2, 9, &[], 0), 16);
+        assert_eq!(refused(18, 1, 9, &[], 0), 1);
+        assert_eq!(refused(18, 1, 3, &[], 0), 1);
+        assert_eq!(refused(18, 1, 1, &[], 511), 17);
+        assert_eq!(air.block(300, 0), KEPT_ONE);
+    }
+
+    #[test]
+    fn a_header_is_for_this_unit() {
+        let told = |dest, mni, dest_type| {
+            let mut blocks = sent(dest, 5, 0, 1, 1);
+            blocks[9] |= dest_type;
+            let mut receiver = Receiver::fresh(1, 2, mni).unwrap();
+            let report = Report {
+                frame: 1,
+                slot: 1,
+                kind: 2,
+                blocks: &blocks[..24],
+            };
+            receiver.report(&report, &mut [0; 512]).outcome
+        };
+        assert_eq!(told(1, 3, 0), 1);
+        assert_eq!(told(2, 3, 0), 1);
+        assert_eq!(told(3, 3, 0), 0);
+        assert_eq!(told(1, 4, 0), 0);
+        assert_eq!(told(1, 3, 1), 0, "a pseudo address");
+    }
+
+    #[test]
+    fn settings() {
+        let largest = (1 << 24) - 1;
+        assert!(Receiver::fresh(largest, largest, largest).is_ok());
+        assert_eq!(Receiver::fresh(1 << 24, 0, 0).err(), Some(13));
+        assert_eq!(Receiver::fresh(0, 1 << 24, 0).err(), Some(13));
+        assert_eq!(Receiver::fresh(0, 0, 1 << 24).err(), Some(13));
+    }
+}

@@ -1,0 +1,78 @@
+#!/usr/bin/env python3
+"""The proved program against the second one, on call records that nobody has seen: what they print has to be the same, byte for byte.
+
+against-second.py                  some 50,000 calls from fresh seeds
+against-second.py --seeds A,B,..   the calls of these seeds again
+
+Where they differ it names the seed, the record's number in what `second make calls SEED` writes, and both lines.
+"""
+import itertools
+import os
+import sys
+
+import second
+
+# Kinds that the second program answers and `probe` does not know yet: settings and reports. Their records are left out.
+NOT_YET = (0, 4)
+CALLS = 50000
+# So many inputs the records are joined into. Each ends in a record that prints `cut`, and one after it that is not read.
+INPUTS = 12
+
+
+def fresh_seeds():
+    while True:
+        yield int.from_bytes(os.urandom(8), "little")
+
+
+def made(seed):
+    """The records of a seed, (seed, number, record) each: those that can stand anywhere, and those from one that prints `cut` on."""
+    calls = second.records(second.run("make", "calls", str(seed)))
+    kept = [(seed, number, call) for number, call in enumerate(calls, 1) if second.kind(call) not in NOT_YET]
+    answers = second.lines(second.run("probe", given=joined(kept)))
+    whole = len(answers) - answers[-1:].count("cut")
+    return kept[:whole], kept[whole:whole + 2]
+
+
+def joined(calls):
+    return b"".join(call for _, _, call in calls)
+
+
+def inputs(seeds, most):
+    """The seeds' records, joined into few inputs."""
+    found, count = [([], []) for _ in range(INPUTS)], 0
+    for turn, seed in enumerate(seeds):
+        whole, cut = made(seed)
+        lot = found[turn % INPUTS]
+        lot[0].extend(whole)
+        lot[1].extend(cut if not lot[1] else [])
+        count += len(whole)
+        if most and count >= most:
+            break
+    return [whole + cut for whole, cut in found if whole or cut]
+
+
+def compare(calls):
+    """How many lines the two programs print alike of these records; stops where they do not."""
+    given = joined(calls)
+    ours, theirs = second.run_probe(given), second.run("probe", given=given)
+    if ours == theirs:
+        return len(second.lines(ours))
+    for call, a, b in itertools.zip_longest(calls, second.lines(ours), second.lines(theirs)):
+        if a != b or call is None:
+            seed, number, record = call or ("-", 0, b"")
+            sys.exit("against-second: seed %s, record %d (%s)\n  probe:  %s\n  second: %s" % (seed, number, record[:80].hex(), a, b))
+    sys.exit("against-second: the lines are the same and their ends are not")
+
+
+def main():
+    words = sys.argv[1:]
+    if words and (len(words) != 2 or words[0] != "--seeds"):
+        sys.exit(__doc__)
+    second.build()
+    seeds = [int(word) for word in words[1].split(",")] if words else fresh_seeds()
+    agreed = [compare(calls) for calls in inputs(seeds, 0 if words else CALLS)]
+    print("against-second: %d calls, in %d inputs, and the two programs print the same" % (sum(agreed), len(agreed)))
+
+
+if __name__ == "__main__":
+    main()
