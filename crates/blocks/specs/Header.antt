@@ -81,9 +81,10 @@ addressAt at b =
     let kind = field at 2 b in
     record { address = record { kind = kind; ssi = field (at + 2) (addressWidth kind) b }; next = at + 2 + addressWidth kind }
 
-unfoldable pub bodyOf : List Bool → Body
-bodyOf b =
-    let w = headerLayout (shapeOf b) in
+-- Read as a shape says, and as its own does.
+abbrev pub bodyWith : Shape → List Bool → Body
+bodyWith q b =
+    let w = headerLayout q in
     record {
       fill = element w 1 b;
       fragmented = element w 2 b;
@@ -93,9 +94,12 @@ bodyOf b =
       source = record { kind = element w 7 b; ssi = element w 8 b };
       mni = element w 9 b;
       message = element w 10 b;
-      width = widthIn b;
-      first = sduAt (shapeOf b);
+      width = q .width;
+      first = sduAt q;
     }
+
+unfoldable pub bodyOf : List Bool → Body
+bodyOf b = bodyWith (shapeOf b) b
 
 -- The DM-SDU's room, and the message bits in it.
 abbrev pub roomOf : Body → List Bool → List Bool

@@ -6,5 +6,3 @@ pub mod Sync
 pub mod Header
 pub mod Continuation
 pub mod Slots
-pub mod Plan
-pub mod Build

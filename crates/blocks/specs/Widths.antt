@@ -1,10 +1,10 @@
 -- The table of widths: message types (9.3.19) and their message dependent elements (9.4, 9.5).
 use mathlib.Core.Bool.{Bool, true, false}
 use mathlib.Core.List.{List, [], _∷_}
-use Prim.Native.Nat.{ℕ, _+_}
-use lib.Dec.{eqb}
+use Prim.Native.Nat.{ℕ, _+_, _^_}
+use lib.Dec.{eqb, ltb, leb}
 use lib.ListN.{getD}
-use Rattle.bits.specs.Bits.{field}
+use Rattle.bits.specs.Bits.{bitsN, field}
 use Rattle.blocks.specs.declared.widths.Entry.{Entry}
 
 -- Elements of one width.
@@ -75,3 +75,14 @@ unfoldable pub widthOf : Entry → List Bool → ℕ
 widthOf e run =
     let a = added (field (e .flag) 1 run) (e .adds) in
     e .width + a + added (field (a + e .flag2) 1 run) (e .adds2)
+
+-- Whether a run of elements is one that the table has: its width is that of the case that its own flags name, and its number fits. A message type without entry is
+-- not tested.
+abbrev pub runHolds : Bool → Bool → Bool → Bool
+runHolds false small right = true
+runHolds true false right = false
+runHolds true true right = right
+
+unfoldable pub runFits : ℕ → ℕ → ℕ → Bool
+runFits message width elements =
+    runHolds (leb (entryOf message .width) 254) (ltb elements (2 ^ width)) (eqb (widthOf (entryOf message) (bitsN width elements)) width)

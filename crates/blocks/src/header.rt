@@ -66,7 +66,7 @@ fn refused(fault: u8) -> Header
 }
 
 // The bits of an address, by its type.
-pub(crate) fn address_width(kind: u8) -> usize
+pub fn address_width(kind: u8) -> usize
     ensures { λ r. ⌜ r ≡ addressWidth kind ⌝ }
 {
     if kind == 2 { 0 } else { 24 }

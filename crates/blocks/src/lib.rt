@@ -1,8 +1,6 @@
 // The blocks of EN 300 396-3 as lent bytes: SCH/S, SCH/H and SCH/F, and the layout of a message over slots.
-pub mod build;
 pub mod continuation;
 pub mod header;
-pub mod plan;
 pub mod sdu;
 pub mod sizes;
 pub mod slots;

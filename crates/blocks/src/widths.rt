@@ -3,7 +3,7 @@ ghost use mathlib.Core.Path.{_≡_};
 ghost use Prim.Native.Nat.{_+_, _*_, _≤_};
 ghost use lib.ListN.{length, drop};
 ghost use Rattle.bits.specs.Bits.{bitsOf};
-ghost use Rattle.blocks.specs.Widths.{entryOf, added, widthOf};
+ghost use Rattle.blocks.specs.Widths.{entryOf, added, widthOf, runFits};
 
 // The width of a message's elements with no flag set; the place of a flag in them and the bits that an element adds which hangs on it, twice.
 // The second flag's place is counted without what the first adds.
@@ -246,7 +246,7 @@ const TABLE: [Entry; 32] = [
 ];
 
 // The entry of a message type.
-pub(crate) fn entry_of(message: u8) -> Entry
+pub fn entry_of(message: u8) -> Entry
     ensures { λ r. ⌜ r ≡ entryOf message ⌝ }
 {
     let i = message as usize;
@@ -279,4 +279,23 @@ pub(crate) fn width_at(s: &[u8], at: usize, message: u8) -> usize
     let first = added_by(bits::get8(s, at + (e.flag as usize), 1), e.adds);
     let second = added_by(bits::get8(s, at + (first + (e.flag2 as usize)), 1), e.adds2);
     (e.width as usize) + first + second
+}
+
+// Whether a run of elements is one that the table has for this message type; one without entry is not tested.
+pub fn run_fits(message: u8, width: u8, elements: u64) -> bool
+    ensures { λ r. ⌜ r ≡ runFits message width elements ⌝ }
+{
+    if 254 < entry_of(message).width {
+        return true;
+    }
+    let w = width as usize;
+    if 45 < w {
+        return false;
+    }
+    if elements >> w != 0 {
+        return false;
+    }
+    let mut run = [0u8; 8];
+    bits::put(&mut run, 0, w, elements);
+    width_at(&run, 0, message) == w
 }

@@ -15,7 +15,7 @@ use Rattle.bits.specs.Fill.{filled}
 use Rattle.bits.specs.Layout.{pack, element}
 use Rattle.bits.proofs.Bytes.{length-bitsOf, length-bytesN}
 use Rattle.bits.proofs.Filling.{filled-none}
-use Rattle.blocks.specs.Widths.{entryOf, widthOf}
+use Rattle.blocks.specs.Widths.{entryOf, widthOf, runFits}
 use Rattle.blocks.specs.Sdu.{fillTold}
 use Rattle.blocks.specs.Sync.{syncLayout, syncParts, syncOf}
 use Rattle.blocks.specs.Header.{sduAt, fieldsOf, headerOf, readHeader}
@@ -24,12 +24,12 @@ use Rattle.blocks.specs.declared.header.Header.{Header}
 use Rattle.blocks.specs.Continuation.{continuationParts}
 use Rattle.bits.specs.Runs.{joined}
 use Rattle.blocks.specs.Slots.{fitsHeader, inHeader}
-use Rattle.blocks.specs.Plan.{fragmentedFor, blocksFor, runFits, buildFault}
-use Rattle.blocks.specs.Build.{shapeFor, headerParts, headerBlock, continuationBlock, continuationBlocks, builtBits, builtAs, buildOf, outOf, schS, schH, schFs, readAll, expected, blockBits}
+use Rattle.build.specs.Plan.{fragmentedFor, blocksFor, buildFault}
+use Rattle.build.specs.Build.{shapeFor, headerParts, headerBlock, continuationBlock, continuationBlocks, builtBits, builtAs, buildOf, outOf, schS, schH, schFs, readAll, expected, blockBits}
 use Rattle.blocks.proofs.FaultLaws.{given-first}
-use Rattle.blocks.proofs.RangeLaws as fields
-use Rattle.blocks.proofs.JoinLaws.{built-reads, built-blocks, built-joined}
-use Rattle.blocks.proofs.RebuildLaws.{read-is, in-range-again, fits-header, rebuilt, length-s, length-h}
+use Rattle.build.proofs.RangeLaws as fields
+use Rattle.build.proofs.JoinLaws.{built-reads, built-blocks, built-joined}
+use Rattle.build.proofs.RebuildLaws.{read-is, in-range-again, fits-header, rebuilt, length-s, length-h}
 use Rattle.demands.specs.Demand2.{Call, bits, h, k, answer, after, InRange, checks, built, headerBack, headerMessage, padded, Demand2}
 
 -- a room that the message fills has no fill

@@ -18,13 +18,13 @@ use Rattle.blocks.specs.Sync.{syncLayout, syncParts}
 use Rattle.blocks.specs.Header.{addressWidth, sduAt, bodyOf, messageOf, readHeader}
 use Rattle.blocks.specs.Continuation.{continuationParts}
 use Rattle.blocks.specs.Slots.{inHeader}
-use Rattle.blocks.specs.Plan.{headerBits, fragmentedFor, blocksFor, buildChecks}
-use Rattle.blocks.specs.Build.{shapeFor, headerParts, headerBlock, continuationBlocks, builtBits, builtBytes, buildOf, outOf, schS, schH, schFs, blockBits, readAll, expected}
+use Rattle.build.specs.Plan.{headerBits, fragmentedFor, blocksFor, buildChecks}
+use Rattle.build.specs.Build.{shapeFor, headerParts, headerBlock, continuationBlocks, builtBits, builtBytes, buildOf, outOf, schS, schH, schFs, blockBits, readAll, expected}
 use Rattle.blocks.specs.declared.sync.Sync.{Sync}
 use Rattle.blocks.specs.declared.header.Fields.{Fields}
 use Rattle.blocks.specs.declared.header.Address.{Address}
 use Rattle.blocks.specs.declared.header.Header.{Header}
-use Rattle.blocks.specs.declared.build.Built.{Built}
+use Rattle.build.specs.declared.Built.{Built}
 
 -- A call of `build`: SCH/S's fields, the countdown, the header's fields, n, the lent message and the lent output.
 pub record Call : Type 0 where

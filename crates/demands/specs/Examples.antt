@@ -8,16 +8,16 @@ use lib.ListN.{replicate}
 use Rattle.bits.specs.Bits.{bit, num, bitsN, bitsOf, bytesN, testBit}
 use Rattle.bits.specs.Fill.{strip, before, filled, fillBits}
 use Rattle.blocks.specs.Faults.{unless}
-use Rattle.blocks.specs.Widths.{entryOf, widthOf}
+use Rattle.blocks.specs.Widths.{entryOf, widthOf, runFits}
 use Rattle.blocks.specs.Sdu.{sduOf, isThere, bitsIn}
 use Rattle.blocks.specs.Sync.{syncOf, syncChecks}
 use Rattle.blocks.specs.Header.{fragmentedIn, toIn, fromIn, messageIn, widthIn, bodyOf, readHeader}
 use Rattle.blocks.specs.Slots.{dueOf}
-use Rattle.blocks.specs.Plan.{planOf, runFits, buildFault}
-use Rattle.blocks.specs.Build.{continuationBlock, builtBits, builtBytes, buildOf, schS, schH}
+use Rattle.build.specs.Plan.{planOf, buildFault}
+use Rattle.build.specs.Build.{continuationBlock, builtBits, builtBytes, buildOf, schS, schH}
 use Rattle.blocks.specs.declared.sync.Sync.{Sync}
 use Rattle.blocks.specs.declared.header.Fields.{Fields}
-use Rattle.blocks.specs.declared.plan.Plan.{Plan}
+use Rattle.build.specs.declared.plan.Plan.{Plan}
 
 -- An example: what the definitions give, and what the document says.
 pub record Example : Type 0 where

@@ -9,12 +9,12 @@ use lib.Seq.{drop-cons, take-all}
 use borrow.Author.Tests.{le-leb, lt-leb, ne-eqb}
 use Rattle.text.specs.Text.{Wrote, spaced, hexOf}
 use Rattle.text.proofs.Writing.{wrote-none, wrote-more, wrote-both}
-use Rattle.blocks.specs.Plan.{buildFault, blocksFor}
-use Rattle.blocks.specs.Build.{builtAs, buildOf, outOf}
-use Rattle.blocks.proofs.RangeLaws.{in-range}
+use Rattle.build.specs.Plan.{buildFault, blocksFor}
+use Rattle.build.specs.Build.{builtAs, buildOf, outOf}
+use Rattle.build.proofs.RangeLaws.{in-range}
 use Rattle.blocks.specs.declared.sync.Sync.{Sync}
 use Rattle.blocks.specs.declared.header.Fields.{Fields}
-use Rattle.blocks.specs.declared.build.Built.{Built}
+use Rattle.build.specs.declared.Built.{Built}
 use Rattle.probe.specs.Body.{syncIn, countdownIn, fieldsIn, nIn, lentIn, messageIn}
 use Rattle.probe.specs.Lines.{startOf, hexText, restOf, shownOf, lineWith, writtenBy, buildText, unknownLine, builtText, buildLine, Stands, Says}
 use Rattle.probe.specs.declared.print.Line.the-variants.{Bytes, Short}

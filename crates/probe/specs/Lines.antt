@@ -8,11 +8,11 @@ use lib.Dec.{eqb, leb}
 use lib.ListN.{length, take, drop, getD, replicate}
 use Rattle.io.specs.Counts.{Counts}
 use Rattle.text.specs.Text.{Wrote, spaced, hexOf}
-use Rattle.blocks.specs.Build.{buildOf, outOf}
+use Rattle.build.specs.Build.{buildOf, outOf}
 use Rattle.blocks.specs.Header.{readHeader}
 use Rattle.blocks.specs.Continuation.{readContinuation}
 use Rattle.blocks.specs.Slots.{dueOf}
-use Rattle.blocks.specs.declared.build.Built.{Built}
+use Rattle.build.specs.declared.Built.{Built}
 use Rattle.blocks.specs.declared.header.Header.{Header}
 use Rattle.blocks.specs.declared.continuation.Continuation.{Continuation}
 use Rattle.blocks.specs.declared.slots.Due.{Due}

@@ -22,7 +22,7 @@ fn built(body: &[u8], out: &mut [u8], line: &mut [u8]) -> usize
     let sync = body::sync(body);
     let fields = body::fields(body);
     let n = body::four(body, 29) as usize;
-    let b = blocks::build::build(sync, body[4], fields, n, &body[35..], out);
+    let b = build::build(sync, body[4], fields, n, &body[35..], out);
     print::build(line, b, out)
 }
 

@@ -4,10 +4,10 @@ ghost use Prim.Native.Nat.{_+_, _*_, _≤_, _<_};
 ghost use lib.ListN.{length, drop};
 ghost use Rattle.text.specs.Text.{Wrote};
 ghost use Rattle.probe.specs.Lines.{Stands, lineOf, startOf, hexText, restOf, shownOf, lineWith, writtenBy, buildText, headerNumbers, headerText, blockText, frameText};
-use blocks::build::Built;
 use blocks::continuation::Continuation;
 use blocks::header::Header;
 use blocks::slots::Due;
+use build::Built;
 
 // How many bytes of a buffer are a line; or there is none, since the record is too short for its kind.
 pub enum Line {
