@@ -14,7 +14,7 @@ HERE = os.path.dirname(os.path.abspath(__file__))
 sys.path.insert(0, os.path.join(HERE, "..", "tests"))
 import second  # for the shape of records, and to run `probe`; the second program itself is not used here
 
-TEXT = b"Pilot boat to pier 4: two tugs, wind NE 6, berth 12 is clear, call on A."
+TEXT = b"Hire 4711: hammer kit 12 and drill kit 3, out 06:40, quarry 5, cage 2 ok"
 # To SSI 5001 from SSI 7, MNI 901, as DM-SDS DATA (23) with its 8 bits of elements: time remaining 1001, transaction type 0, priority 01, FCS flag 0.
 FIELDS = dict(system=13, usage=0, to_type=0, to=5001, from_type=0, source=7, mni=901, message=23, width=8, elements=0b1001_0_01_0)
 FIRST = 16  # the frame that the header goes out in first
