@@ -18,7 +18,7 @@ fn reach(s: &[u8]) -> usize
     }
 }
 
-pub fn get(s: &[u8], x: u16, y: u16) {
+pub(crate) fn get(s: &[u8], x: u16, y: u16) {
     let at = x as usize;
     let w = y as usize;
     if 56 < w {
@@ -30,7 +30,7 @@ pub fn get(s: &[u8], x: u16, y: u16) {
     print::number(bits::get(s, at, w));
 }
 
-pub fn get8(s: &[u8], x: u16, y: u16) {
+pub(crate) fn get8(s: &[u8], x: u16, y: u16) {
     let at = x as usize;
     let w = y as usize;
     if 8 < w {
@@ -42,7 +42,7 @@ pub fn get8(s: &[u8], x: u16, y: u16) {
     print::number(bits::get8(s, at, w) as u64);
 }
 
-pub fn get32(s: &[u8], x: u16, y: u16) {
+pub(crate) fn get32(s: &[u8], x: u16, y: u16) {
     let at = x as usize;
     let w = y as usize;
     if 32 < w {
@@ -54,7 +54,7 @@ pub fn get32(s: &[u8], x: u16, y: u16) {
     print::number(bits::get32(s, at, w) as u64);
 }
 
-pub fn put(out: &mut [u8], x: u16, y: u16, v: u64) {
+pub(crate) fn put(out: &mut [u8], x: u16, y: u16, v: u64) {
     let at = x as usize;
     let w = y as usize;
     if 56 < w {
@@ -85,7 +85,7 @@ fn put_parts(out: &mut [u8], at: usize, widths: &[u8], values: &[u64])
 }
 
 // The parts in `t`: a byte for each width, and after these eight bytes for each value.
-pub fn put_all(out: &mut [u8], x: u16, t: &[u8]) {
+pub(crate) fn put_all(out: &mut [u8], x: u16, t: &[u8]) {
     let at = x as usize;
     let n = t.len() / 9;
     if 32 < n {
@@ -96,7 +96,7 @@ pub fn put_all(out: &mut [u8], x: u16, t: &[u8]) {
     put_parts(out, at, &t[..n], &values[..n]);
 }
 
-pub fn copy(src: &[u8], x: u16, dst: &mut [u8], y: u16, z: u16) {
+pub(crate) fn copy(src: &[u8], x: u16, dst: &mut [u8], y: u16, z: u16) {
     let from = x as usize;
     let to = y as usize;
     let n = z as usize;
@@ -110,7 +110,7 @@ pub fn copy(src: &[u8], x: u16, dst: &mut [u8], y: u16, z: u16) {
     print::bytes(dst);
 }
 
-pub fn clear(out: &mut [u8], x: u16, y: u16) {
+pub(crate) fn clear(out: &mut [u8], x: u16, y: u16) {
     let from = x as usize;
     let to = y as usize;
     if to < from {
@@ -123,7 +123,7 @@ pub fn clear(out: &mut [u8], x: u16, y: u16) {
     print::bytes(out);
 }
 
-pub fn fill(out: &mut [u8], x: u16, y: u16) {
+pub(crate) fn fill(out: &mut [u8], x: u16, y: u16) {
     let from = x as usize;
     let to = y as usize;
     if to < from {
@@ -136,7 +136,7 @@ pub fn fill(out: &mut [u8], x: u16, y: u16) {
     print::bytes(out);
 }
 
-pub fn last_one(s: &[u8], x: u16, y: u16) {
+pub(crate) fn last_one(s: &[u8], x: u16, y: u16) {
     let from = x as usize;
     let to = y as usize;
     if to < from {
@@ -156,7 +156,7 @@ pub fn last_one(s: &[u8], x: u16, y: u16) {
 }
 
 // A DMAC-END that carries `y` bits of `t` from bit `x` on: PDU type 01, subtype 1, fill indication 1, the bits, fill up to bit 268.
-pub fn end(t: &[u8], x: u16, y: u16) {
+pub(crate) fn end(t: &[u8], x: u16, y: u16) {
     let from = x as usize;
     let n = y as usize;
     if 263 < n {

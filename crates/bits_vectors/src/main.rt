@@ -16,20 +16,8 @@ mod calls;
 mod parts;
 mod print;
 
-ghost use Rattle.io.specs.Counts.{Counts};
-
 fn two(low: u8, high: u8) -> u16 {
     (low as u16) | ((high as u16) << 8)
-}
-
-// Reads `n` bytes to the start of `run`, and answers how many of them were there.
-fn lent(run: &mut [u8], n: usize) -> usize
-    ensures { λ r. ⌜ Counts r (now (run .exit)) ⌝ }
-{
-    if run.len() < n {
-        return 0;
-    }
-    io::read_full(libc::STDIN_FILENO, &mut run[..n])
 }
 
 fn answer(head: &[u8; 17], s: &mut [u8], t: &[u8]) {
@@ -61,8 +49,8 @@ fn record() -> bool {
     }
     let mut s = [0u8; 256];
     let mut t = [0u8; 256];
-    let n = lent(&mut s, parts::index(head[15]));
-    let m = lent(&mut t, parts::index(head[16]));
+    let n = stdin::fill(&mut s, parts::index(head[15]));
+    let m = stdin::fill(&mut t, parts::index(head[16]));
     if got < 17 || n < parts::index(head[15]) || m < parts::index(head[16]) {
         print::word(b"cut\n");
         return false;

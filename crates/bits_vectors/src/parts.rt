@@ -4,11 +4,11 @@ ghost use Prim.Native.Nat.{_+_, _^_, _≤_, _<_};
 ghost use lib.ListN.{length};
 ghost use Rattle.bits_vectors.specs.Measure.{Measured};
 
-pub fn wide(x: u8) -> u64 {
+pub(crate) fn wide(x: u8) -> u64 {
     x as u64
 }
 
-pub fn index(x: u8) -> usize
+pub(crate) fn index(x: u8) -> usize
     ensures { λ r. ⌜ (r ≡ x) × (r ≤ 255) ⌝ }
 {
     x as usize
@@ -19,7 +19,7 @@ fn four(a: u8, b: u8, c: u8, d: u8) -> u64 {
 }
 
 // The number of the eight bytes from `at` on, the low byte first.
-pub fn eight(b: &[u8], at: usize) -> u64
+pub(crate) fn eight(b: &[u8], at: usize) -> u64
     requires { ⌜ at + 8 ≤ length (now b) ⌝ }
 {
     let low = four(b[at], b[at + 1], b[at + 2], b[at + 3]);
@@ -28,7 +28,7 @@ pub fn eight(b: &[u8], at: usize) -> u64
 }
 
 // What fits `w` bits of `v`: all of it, where its value does.
-pub fn low(v: u64, w: usize) -> u64
+pub(crate) fn low(v: u64, w: usize) -> u64
     requires { ⌜ w ≤ 56 ⌝ }
     ensures { λ r. ⌜ r < 2 ^ w ⌝ }
 {
@@ -36,7 +36,7 @@ pub fn low(v: u64, w: usize) -> u64
 }
 
 // As many numbers of eight bytes, one after another from `at` on, as `out` takes.
-pub fn values(b: &[u8], at: usize, out: &mut [u64]) {
+pub(crate) fn values(b: &[u8], at: usize, out: &mut [u64]) {
     let mut from = at;
     let mut i = 0;
     while i < out.len() {
@@ -58,7 +58,7 @@ pub enum Size {
 }
 
 // How many bits the parts have together, where each value fits its width and no width is above 56.
-pub fn measure(widths: &[u8], values: &[u64]) -> Size
+pub(crate) fn measure(widths: &[u8], values: &[u64]) -> Size
     requires { ⌜ (length (now widths) ≡ length (now values)) × (length (now widths) ≤ 32) ⌝ }
     ensures { λ r. ⌜ Measured (now (widths .entry)) (now (values .entry)) r ⌝ }
 {

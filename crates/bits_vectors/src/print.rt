@@ -2,21 +2,21 @@
 use crate::parts::wide;
 use libc::STDOUT_FILENO;
 
-pub fn word(text: &[u8]) {
+pub(crate) fn word(text: &[u8]) {
     io::write_all(STDOUT_FILENO, text);
 }
 
-pub fn range() {
+pub(crate) fn range() {
     word(b"range\n");
 }
 
-pub fn number(n: u64) {
+pub(crate) fn number(n: u64) {
     io::print_decimal(STDOUT_FILENO, n);
     word(b"\n");
 }
 
 // Two hexadecimal digits for each byte.
-pub fn bytes(s: &[u8]) {
+pub(crate) fn bytes(s: &[u8]) {
     let mut i = 0;
     while i < s.len() {
         io::print_hex(STDOUT_FILENO, wide(s[i]), 2);

@@ -7,13 +7,13 @@ use blocks::header::Address;
 use blocks::header::Fields;
 use blocks::sync::Sync;
 
-pub fn two(low: u8, high: u8) -> u16
+pub(crate) fn two(low: u8, high: u8) -> u16
     ensures { λ r. ⌜ r ≡ low + 256 * high ⌝ }
 {
     (low as u16) + 256 * (high as u16)
 }
 
-pub fn four(body: &[u8], at: usize) -> u32
+pub(crate) fn four(body: &[u8], at: usize) -> u32
     requires { ⌜ at + 4 ≤ length (now body) ⌝ }
     ensures { λ r. ⌜ r ≡ fourAt (now (body .entry)) at ⌝ }
 {
@@ -31,7 +31,7 @@ fn eight(body: &[u8], at: usize) -> u64
     (low as u64) + 4294967296 * (high as u64)
 }
 
-pub fn sync(body: &[u8]) -> Sync
+pub(crate) fn sync(body: &[u8]) -> Sync
     requires { ⌜ 35 ≤ length (now body) ⌝ }
     ensures { λ r. ⌜ r ≡ syncIn (now (body .entry)) ⌝ }
 {
@@ -43,7 +43,7 @@ pub fn sync(body: &[u8]) -> Sync
     }
 }
 
-pub fn fields(body: &[u8]) -> Fields
+pub(crate) fn fields(body: &[u8]) -> Fields
     requires { ⌜ 35 ≤ length (now body) ⌝ }
     ensures { λ r. ⌜ r ≡ fieldsIn (now (body .entry)) ⌝ }
 {

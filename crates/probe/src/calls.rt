@@ -26,7 +26,7 @@ fn built(body: &[u8], out: &mut [u8], line: &mut [u8]) -> usize
     print::build(line, b, out)
 }
 
-pub fn build(body: &[u8], line: &mut [u8]) -> Line
+pub(crate) fn build(body: &[u8], line: &mut [u8]) -> Line
     requires { ⌜ 4096 ≤ length (now line) ⌝ }
     ensures { λ r. ⌜ Says (now (line .entry)) (buildLine (now (body .entry))) (now (line .exit)) r ⌝ }
 {
@@ -41,7 +41,7 @@ pub fn build(body: &[u8], line: &mut [u8]) -> Line
     Line::Bytes(built(body, &mut out[..lent], line))
 }
 
-pub fn header(body: &[u8], line: &mut [u8]) -> Line
+pub(crate) fn header(body: &[u8], line: &mut [u8]) -> Line
     requires { ⌜ 512 ≤ length (now line) ⌝ }
     ensures { λ r. ⌜ Says (now (line .entry)) (headerLine (now (body .entry))) (now (line .exit)) r ⌝ }
 {
@@ -57,7 +57,7 @@ pub fn header(body: &[u8], line: &mut [u8]) -> Line
     Line::Bytes(print::header(line, h))
 }
 
-pub fn block(body: &[u8], line: &mut [u8]) -> Line
+pub(crate) fn block(body: &[u8], line: &mut [u8]) -> Line
     requires { ⌜ 512 ≤ length (now line) ⌝ }
     ensures { λ r. ⌜ Says (now (line .entry)) (blockLine (now (body .entry))) (now (line .exit)) r ⌝ }
 {
@@ -65,7 +65,7 @@ pub fn block(body: &[u8], line: &mut [u8]) -> Line
     Line::Bytes(print::block(line, b))
 }
 
-pub fn frame(body: &[u8], line: &mut [u8]) -> Line
+pub(crate) fn frame(body: &[u8], line: &mut [u8]) -> Line
     requires { ⌜ 512 ≤ length (now line) ⌝ }
     ensures { λ r. ⌜ Says (now (line .entry)) (frameLine (now (body .entry))) (now (line .exit)) r ⌝ }
 {
@@ -76,7 +76,7 @@ pub fn frame(body: &[u8], line: &mut [u8]) -> Line
     Line::Bytes(print::frame(line, d))
 }
 
-pub fn unknown(line: &mut [u8]) -> Line
+pub(crate) fn unknown(line: &mut [u8]) -> Line
     requires { ⌜ 512 ≤ length (now line) ⌝ }
     ensures { λ r. ⌜ Says (now (line .entry)) unknownLine (now (line .exit)) r ⌝ }
 {

@@ -1,5 +1,4 @@
 // Records from standard input.
-ghost use Rattle.io.specs.Counts.{Counts};
 ghost use Rattle.probe.specs.Lines.{Held};
 use crate::body::two;
 use libc::STDIN_FILENO;
@@ -11,18 +10,8 @@ pub enum Taken {
     End,
 }
 
-// Reads `n` bytes to the start of `run`, and answers how many of them were there.
-fn fill(run: &mut [u8], n: usize) -> usize
-    ensures { λ r. ⌜ Counts r (now (run .exit)) ⌝ }
-{
-    if run.len() < n {
-        return 0;
-    }
-    io::read_full(STDIN_FILENO, &mut run[..n])
-}
-
 // Takes the next record.
-pub fn take(body: &mut [u8]) -> Taken
+pub(crate) fn take(body: &mut [u8]) -> Taken
     ensures { λ r. ⌜ Held r (now (body .exit)) ⌝ }
 {
     let mut head = [0u8; 4];
@@ -38,7 +27,7 @@ pub fn take(body: &mut [u8]) -> Taken
         return Taken::Cut;
     }
     let n = length - 2;
-    let came = fill(body, n);
+    let came = stdin::fill(body, n);
     if came != n {
         return Taken::Cut;
     }

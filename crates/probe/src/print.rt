@@ -95,7 +95,7 @@ fn built_bytes(b: Built) -> usize
     24 + 34 * (b.blocks as usize)
 }
 
-pub fn build(out: &mut [u8], b: Built, s: &[u8]) -> usize
+pub(crate) fn build(out: &mut [u8], b: Built, s: &[u8]) -> usize
     requires { ⌜ (writtenBy b ≤ length (now s)) × (length (now s) ≤ 1024) × (4096 ≤ length (now out)) ⌝ }
     ensures { λ r. ⌜ Stands (now (out .entry)) (buildText b (now (s .entry))) (now (out .exit)) r ⌝ }
 {
@@ -130,7 +130,7 @@ fn header_numbers(h: Header) -> [u64; 18]
     ]
 }
 
-pub fn header(out: &mut [u8], h: Header) -> usize
+pub(crate) fn header(out: &mut [u8], h: Header) -> usize
     requires { ⌜ 512 ≤ length (now out) ⌝ }
     ensures { λ r. ⌜ Stands (now (out .entry)) (headerText h) (now (out .exit)) r ⌝ }
 {
@@ -138,7 +138,7 @@ pub fn header(out: &mut [u8], h: Header) -> usize
     line_of(out, b"header", &ns)
 }
 
-pub fn block(out: &mut [u8], b: Continuation) -> usize
+pub(crate) fn block(out: &mut [u8], b: Continuation) -> usize
     requires { ⌜ 512 ≤ length (now out) ⌝ }
     ensures { λ r. ⌜ Stands (now (out .entry)) (blockText b) (now (out .exit)) r ⌝ }
 {
@@ -146,7 +146,7 @@ pub fn block(out: &mut [u8], b: Continuation) -> usize
     line_of(out, b"block", &ns)
 }
 
-pub fn frame(out: &mut [u8], d: Due) -> usize
+pub(crate) fn frame(out: &mut [u8], d: Due) -> usize
     requires { ⌜ 512 ≤ length (now out) ⌝ }
     ensures { λ r. ⌜ Stands (now (out .entry)) (frameText d) (now (out .exit)) r ⌝ }
 {

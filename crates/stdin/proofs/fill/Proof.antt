@@ -2,8 +2,8 @@ use Prim.Native.Nat.{_≤_}
 use native.Mathlib.Omega.{arith}
 use lib.ListN.{length, length-take, length-append}
 use borrow.Author.Needs.{needs}
-use Rattle.bits_vectors.proofs.lent.Statement.{statement}
-use Rattle.bits_vectors.proofs.lent.Tie as tie
+use Rattle.stdin.proofs.fill.Statement.{statement}
+use Rattle.stdin.proofs.fill.Tie as tie
 
 returns : tie.Need-returns
 returns c = search needs
@@ -26,8 +26,8 @@ returns-2 c =
     let h : r .result ≤ length (r .last .1 .0) = r .ensures .0 in
     (simp length-append (omega arith), simp (length-take, length-append) (omega arith))
 
-pub lent-spec : {M : Type 1} → statement M
-lent-spec =
+pub fill-spec : {M : Type 1} → statement M
+fill-spec =
     tie.close
     (tie.spec
     returns
