@@ -38,7 +38,7 @@ address-at-requires c κs = search needs
 to-next : (c : tie.After-address-at) → c .address-at .result .next ≤ 44
 to-next c =
     let f = c .before .before .before .get82 .ensures .small in
-    omega (arith, next-le (12 + 4 * c .before .before .before .get82 .result + 2) (bitsOf (c .before .before .before .before .before .before .args .h .now)) (c .address-at .ensures))
+    omega (arith, next-le _ (bitsOf (c .before .before .before .before .before .before .args .h .now)) (c .address-at .ensures))
 
 from-next : (c : tie.After-address-at2) → c .address-at2 .result .next ≤ 70
 from-next c = omega (arith, to-next (c .before), next-le (c .before .address-at .result .next) (bitsOf (c .before .before .before .before .before .before .before .args .h .now)) (c .address-at2 .ensures))
