@@ -126,7 +126,7 @@ same [] (y ∷ ys) = false
 same (x ∷ xs) [] = false
 same (x ∷ xs) (y ∷ ys) = eqb x y && same xs ys
 
-abbrev agree : List Example → Bool
+abbrev pub agree : List Example → Bool
 agree [] = true
 agree (e ∷ es) = same (e .given) (e .told) && agree es
 
@@ -140,7 +140,7 @@ is-same [] (y ∷ ys) t = absurd t
 is-same (x ∷ xs) [] t = absurd t
 is-same (x ∷ xs) (y ∷ ys) t = let p = both (eqb x y) (same xs ys) t in ap₂ _∷_ (eqb→eq x y (p .0)) (is-same xs ys (p .1))
 
-hold : (es : List Example) → T (agree es) → AllHold es
+pub hold : (es : List Example) → T (agree es) → AllHold es
 hold [] t = tt
 hold (e ∷ es) t = let p = both (same (e .given) (e .told)) (agree es) t in (is-same (e .given) (e .told) (p .0), hold es (p .1))
 

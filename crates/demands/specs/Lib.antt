@@ -1,3 +1,9 @@
 -- The demands and the examples, each file readable alone.
 pub mod Examples
 pub mod Demand2
+pub mod Calls
+pub mod Demand3
+pub mod Demand1
+pub mod RunRows
+pub mod RunTable
+pub mod Run

@@ -1,0 +1,46 @@
+-- The calls that a program makes of one receiver. `fresh` promises `freshOf`, `hear` promises `Hears`; it asks for a receiver that `fresh` or an earlier
+-- `hear` gave, and nothing else.
+use mathlib.Core.Path.{_≡_}
+use mathlib.Core.List.{List}
+use Prim.Native.Nat.{ℕ, suc}
+use Rattle.history.specs.Line.{Line, start, _▸_}
+use Rattle.history.specs.Slots.{Report}
+use Rattle.history.specs.History.{History}
+use Rattle.receiver.specs.Lent.{Lent}
+use Rattle.receiver.specs.Held.{freshOf}
+use Rattle.receiver.specs.Reached.{reportOf, reports, refusedWith, Hears}
+use Rattle.receiver.specs.declared.unit.Settings.{Settings}
+use Rattle.receiver.specs.declared.answer.Answer.{Answer}
+use Rattle.receiver.specs.declared.Receiver.{Receiver}
+use Rattle.receiver.specs.declared.Reply.{Reply}
+use Rattle.receiver.specs.declared.Fresh.{Fresh}
+
+-- From a fresh receiver, with any settings, through any reports, refused ones too: its settings, the accepted reports, oldest first, and the receiver now.
+pub data Calls : Settings → Line Lent → Receiver → Type 0 where
+  begun : (individual group mni : ℕ) (f : Fresh) → f ≡ freshOf individual group mni → Calls (f .receiver .settings) start (f .receiver)
+  refused : {s : Settings} {ls : Line Lent} {before : Receiver} → Calls s ls before → (l : Lent) (r : Reply) (old new : List ℕ) → Hears before l r old new
+      → (n : ℕ) → refusedWith l old ≡ suc n → Calls s ls (r .receiver)
+  accepted : {s : Settings} {ls : Line Lent} {before : Receiver} → Calls s ls before → (l : Lent) (r : Reply) (old new : List ℕ) → Hears before l r old new
+      → refusedWith l old ≡ 0 → Calls s (ls ▸ l) (r .receiver)
+
+-- One call more: the report and the reply, the lent buffer before and after.
+pub record Call : Type 0 where
+  pub settings : Settings
+  pub earlier : Line Lent
+  pub before : Receiver
+  pub calls : Calls settings earlier before
+  pub report : Lent
+  pub reply : Reply
+  pub old : List ℕ
+  pub new : List ℕ
+  pub hears : Hears before report reply old new
+
+-- The accepted reports before it, and its own, as they read; the answer.
+abbrev pub history : Call → History
+history c = reports (c .settings) (c .earlier)
+
+abbrev pub now : Call → Report
+now c = reportOf (c .settings) (c .report)
+
+abbrev pub answer : Call → Answer
+answer c = c .reply .answer

@@ -1,0 +1,20 @@
+-- One report of a stored run, with what it is to answer.
+use mathlib.Core.Bool.{cond}
+use mathlib.Core.List.{List}
+use Prim.Native.Nat.{ℕ, _*_}
+use lib.Dec.{eqb}
+use Rattle.bits.specs.Bits.{bitsN, bytesN}
+use Rattle.receiver.specs.Lent.{Lent}
+
+-- `told`: outcome, dropped, fault, bits.
+pub record Row : Type 0 where
+  pub lent : Lent
+  pub told : List ℕ
+
+-- The bytes that a report of this kind lends, as one number, the first byte highest.
+abbrev pub bytesFor : ℕ → ℕ
+bytesFor kind = cond (eqb kind 1) 0 (cond (eqb kind 2) 24 34)
+
+abbrev pub row : ℕ → ℕ → ℕ → ℕ → List ℕ → Row
+row frame slot kind blocks told =
+    record { lent = record { frame = frame; slot = slot; kind = kind; blocks = bytesN (bytesFor kind) (bitsN (8 * bytesFor kind) blocks) }; told = told }

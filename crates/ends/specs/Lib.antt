@@ -1,0 +1,4 @@
+-- A message on its way from build to hand-over.
+pub mod Sent
+pub mod EndToEnd
+pub mod Delivered

@@ -1,0 +1,5 @@
+pub mod OpenRun
+pub mod NearestHeader
+pub mod Outcomes
+pub mod Theorems
+pub mod Bounds

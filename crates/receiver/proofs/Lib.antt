@@ -1,0 +1,7 @@
+pub mod Counting
+pub mod ViewLaws
+pub mod ReplyLaws
+pub mod Readings
+pub mod Rooms
+pub mod HeardLaws
+pub mod HearLaws

@@ -1,0 +1,6 @@
+-- What a report brings, the history of reports, and the step, in the words of document 01.
+pub mod Lent
+pub mod Held
+pub mod Taken
+pub mod View
+pub mod Reached

@@ -1,0 +1,2 @@
+-- The definitions that the contracts of `store` cite.
+pub mod Store

@@ -1,0 +1,38 @@
+-- A store of 512 bytes that holds a run of bits, zero beyond them; and the bytes of a message that is handed over.
+use mathlib.Core.Bool.{Bool, true, false, _&&_}
+use mathlib.Core.List.{List, [], _∷_, _++_}
+use Prim.Native.Nat.{ℕ, _+_, _-_, _/_}
+use lib.Dec.{eqb}
+use lib.ListN.{length, take, drop, replicate}
+use Rattle.bits.specs.Bits.{bitsOf, bytesN, over}
+
+-- The store that holds these bits.
+unfoldable pub storeOf : List Bool → List ℕ
+storeOf b = bytesN 512 (b ++ replicate (4096 - length b) false)
+
+-- A store with these bits put in after the `at` bits that it holds.
+unfoldable pub joinedTo : List ℕ → ℕ → List Bool → List ℕ
+joinedTo store at m = bytesN 512 (over at m (bitsOf store))
+
+-- A message's bytes; the last byte's spare bits are zero.
+unfoldable pub messageBytes : List Bool → List ℕ
+messageBytes m = bytesN ((length m + 7) / 8) (m ++ replicate 7 false)
+
+-- A lent buffer with a message at its start; bytes after it are unchanged.
+abbrev pub handed : List Bool → List ℕ → List ℕ
+handed m old = messageBytes m ++ drop (length (messageBytes m)) old
+
+-- A lent buffer with the first `n` bits of a store at its start, in whole bytes.
+abbrev pub firstOver : ℕ → List ℕ → List ℕ → List ℕ
+firstOver n store old = take ((n + 7) / 8) store ++ drop ((n + 7) / 8) old
+
+-- A block of 16 bytes with the two bits from bit `at` on zero.
+abbrev pub without : ℕ → List ℕ → List ℕ
+without at h = bytesN 16 (over at (false ∷ false ∷ []) (bitsOf h))
+
+-- The same bytes.
+abbrev pub same-bytes : List ℕ → List ℕ → Bool
+same-bytes [] [] = true
+same-bytes [] (y ∷ ys) = false
+same-bytes (x ∷ xs) [] = false
+same-bytes (x ∷ xs) (y ∷ ys) = eqb x y && same-bytes xs ys
