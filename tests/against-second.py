@@ -1,10 +1,10 @@
 #!/usr/bin/env python3
 """The proved program against the second one, on call records that nobody has seen: what they print has to be the same, byte for byte.
 
-against-second.py                  some 50,000 calls from fresh seeds
-against-second.py --seeds A,B,..   the calls of these seeds again
+against-second.py                  from fresh seeds, some 90,000 calls of every kind, and some 200,000 settings and reports, mutated runs of slots
+against-second.py --seeds A,B,..   the calls and the reports of these seeds again
 
-Where they differ it names the seed, the record's number in what `second make calls SEED` writes, and both lines.
+Where they differ it names the seed, the record's number in what `second make calls SEED` or `second make reports SEED` writes, and both lines.
 """
 import itertools
 import os
@@ -12,11 +12,12 @@ import sys
 
 import second
 
-# Kinds that the second program answers and `probe` does not know yet: settings and reports. Their records are left out.
-NOT_YET = (0, 4)
-CALLS = 50000
-# So many inputs the records are joined into. Each ends in a record that prints `cut`, and one after it that is not read.
+# What `second make` makes, and how many records of it are tried.
+MADE = {"calls": 90000, "reports": 200000}
+# So many inputs the records of each sort are joined into. Each ends in a record that prints `cut`, if a seed had one, and one after it that is not read.
 INPUTS = 12
+# The receiver is what a program starts with: so a seed's answers do not hang on what stands before it.
+START = second.record(0, bytes(12))
 
 
 def fresh_seeds():
@@ -24,24 +25,24 @@ def fresh_seeds():
         yield int.from_bytes(os.urandom(8), "little")
 
 
-def made(seed):
-    """The records of a seed, (seed, number, record) each: those that can stand anywhere, and those from one that prints `cut` on."""
-    calls = second.records(second.run("make", "calls", str(seed)))
-    kept = [(seed, number, call) for number, call in enumerate(calls, 1) if second.kind(call) not in NOT_YET]
-    answers = second.lines(second.run("probe", given=joined(kept)))
+def made(sort, seed):
+    """The records of a seed, (sort, seed, number, record) each: those that can stand anywhere, and those from one that prints `cut` on."""
+    calls = second.records(second.run("make", sort, str(seed)))
+    numbered = [(sort, seed, number, call) for number, call in enumerate([START] + calls)]
+    answers = second.lines(second.run("probe", given=joined(numbered)))
     whole = len(answers) - answers[-1:].count("cut")
-    return kept[:whole], kept[whole:whole + 2]
+    return numbered[:whole], numbered[whole:whole + 2]
 
 
 def joined(calls):
-    return b"".join(call for _, _, call in calls)
+    return b"".join(call for _, _, _, call in calls)
 
 
-def inputs(seeds, most):
+def inputs(sort, seeds, most):
     """The seeds' records, joined into few inputs."""
     found, count = [([], []) for _ in range(INPUTS)], 0
     for turn, seed in enumerate(seeds):
-        whole, cut = made(seed)
+        whole, cut = made(sort, seed)
         lot = found[turn % INPUTS]
         lot[0].extend(whole)
         lot[1].extend(cut if not lot[1] else [])
@@ -59,8 +60,8 @@ def compare(calls):
         return len(second.lines(ours))
     for call, a, b in itertools.zip_longest(calls, second.lines(ours), second.lines(theirs)):
         if a != b or call is None:
-            seed, number, record = call or ("-", 0, b"")
-            sys.exit("against-second: seed %s, record %d (%s)\n  probe:  %s\n  second: %s" % (seed, number, record[:80].hex(), a, b))
+            sort, seed, number, record = call or ("-", "-", 0, b"")
+            sys.exit("against-second: %s of seed %s, record %d (%s)\n  probe:  %s\n  second: %s" % (sort, seed, number, record[:80].hex(), a, b))
     sys.exit("against-second: the lines are the same and their ends are not")
 
 
@@ -69,8 +70,8 @@ def main():
     if words and (len(words) != 2 or words[0] != "--seeds"):
         sys.exit(__doc__)
     second.build()
-    seeds = [int(word) for word in words[1].split(",")] if words else fresh_seeds()
-    agreed = [compare(calls) for calls in inputs(seeds, 0 if words else CALLS)]
+    seeds = [int(word) for word in words[1].split(",")] if words else None
+    agreed = [compare(calls) for sort, most in MADE.items() for calls in inputs(sort, seeds or fresh_seeds(), 0 if words else most)]
     print("against-second: %d calls, in %d inputs, and the two programs print the same" % (sum(agreed), len(agreed)))
 
 

@@ -5,12 +5,14 @@ probe_stored.py            write both files
 probe_stored.py --check    exit 1, and say what differs, where a stored file is not what this script makes
 
 The records are the second program's sheet of reads and layouts, all of it; of its sheet of builds those that show something which none
-before them showed; and some that try the framing.
+before them showed; the histories of slot reports of histories.py, whose lines the second program has to agree with; and some that try
+the framing.
 """
 import itertools
 import os
 import sys
 
+import histories
 import second
 
 HERE = os.path.join(second.TOP, "crates", "probe")
@@ -53,16 +55,26 @@ def some_builds():
             yield given
 
 
+def some_histories():
+    calls = histories.calls()
+    answers = second.lines(second.run("probe", given=b"".join(given for given, _ in calls)))
+    for number, ((given, line), answer) in enumerate(itertools.zip_longest(calls, answers, fillvalue=(b"", "")), 1):
+        if answer != line:
+            sys.exit("probe_stored: call %d of the histories (%s)\n  by hand: %s\n  second:  %s" % (number, given[:40].hex(), line, answer))
+        yield given
+
+
 def framing():
     """Unknown kinds, bytes beyond what a kind takes, the largest body, outputs that are too long; then a record that is cut, and one more."""
     fields = dict(system=12, usage=1, slot=0, frame=7, countdown=2, to_type=0, to=1, from_type=0, source=2, mni=3, message=11, width=0, elements=0)
-    for kind in (0x0100, 0x0105, 0x0800, 0xFFFF, 9):
+    for kind in (0x0100, 0x0104, 0x0105, 0x0400, 0x0800, 0xFFFF, 1, 2, 3, 9):
         yield second.record(kind, [17, 0, 0])
     yield second.record(9, b"")
     yield second.record(8, [17, 0, 0, 255])
     yield second.record(6, [0, 0, 255])
     yield second.record(7, b"")
     yield second.record(7, bytes(4096))
+    yield second.record(4, [1, 1, 3, 0, 4] + [0] * 4091)
     yield second.build_record(bytes(4096 - 35), n=8 * (4096 - 35), lent=1024, **fields)
     for lent in (0, 23, 24, 1023, 1024, 1025, 65535):
         yield second.build_record(b"\xA5\xC3", n=16, lent=lent, **fields)
@@ -73,7 +85,7 @@ def framing():
 
 
 def made():
-    given = second.run("blocks") + b"".join(some_builds()) + b"".join(framing())
+    given = second.run("blocks") + b"".join(itertools.chain(some_builds(), some_histories(), framing()))
     return given, second.run("probe", given=given)
 
 

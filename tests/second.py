@@ -21,12 +21,23 @@ def run(*words, given=b""):
     return subprocess.run([PROGRAM, *words], input=given, stdout=subprocess.PIPE, check=True).stdout
 
 
-def run_probe(given):
-    """What the proved program writes."""
-    ended = subprocess.run([os.path.join(TOP, "tests", "run-program"), "probe"], input=given, stdout=subprocess.PIPE)
+def run_proved(name, given):
+    """What a proved program writes. It has ten minutes."""
+    try:
+        ended = subprocess.run([os.path.join(TOP, "tests", "run-program"), name], input=given, stdout=subprocess.PIPE, timeout=600)
+    except subprocess.TimeoutExpired:
+        sys.exit("the program '%s' did not end within ten minutes" % name)
     if ended.returncode:
-        sys.exit("the program 'probe' did not run to its end (status %d)" % ended.returncode)
+        sys.exit("the program '%s' did not run to its end (status %d)" % (name, ended.returncode))
     return ended.stdout
+
+
+def run_probe(given):
+    return run_proved("probe", given)
+
+
+def run_printer(given):
+    return run_proved("printer", given)
 
 
 def lines(output):
@@ -34,7 +45,7 @@ def lines(output):
 
 
 def records(data):
-    """The records of a file of calls, one after the other; where one is cut off, all that is left is the last."""
+    """The records of a file of calls or of a slot log, one after the other; where one is cut off, all that is left is the last."""
     at, found = 0, []
     while at < len(data):
         length = int.from_bytes(data[at:at + 2], "little")
@@ -46,10 +57,6 @@ def records(data):
 
 def record(kind, body):
     return (len(body) + 2).to_bytes(2, "little") + kind.to_bytes(2, "little") + bytes(body)
-
-
-def kind(given):
-    return int.from_bytes(given[2:4], "little")
 
 
 # The fixed part of a build's body, number by number.

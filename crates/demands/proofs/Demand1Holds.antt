@@ -4,7 +4,6 @@ use mathlib.Core.Bool.{Bool, true, false, cond}
 use mathlib.Core.List.{List, [], _∷_, _++_}
 use Prim.Native.Nat.{ℕ, zero, suc}
 use native.Mathlib.Omega.{arith}
-use lib.ListN.{length}
 use Rattle.bits.specs.Bits.{bitsOf}
 use Rattle.blocks.specs.Faults.{unless, firstOf}
 use Rattle.blocks.specs.Sync.{syncOf, syncChecks}
@@ -12,15 +11,14 @@ use Rattle.blocks.specs.Header as header
 use Rattle.blocks.specs.Continuation as block
 use Rattle.blocks.specs.Slots.{dueChecks, dueFrame, dueAt, dueOf}
 use Rattle.build.specs.Plan.{blocksFor, buildFault}
-use Rattle.build.specs.Build.{builtAs, buildOf, outOf, builtBytes}
+use Rattle.build.specs.Build.{builtAs, buildOf, outOf}
 use Rattle.blocks.specs.declared.header.Header.{Header}
 use Rattle.blocks.specs.declared.continuation.Continuation.{Continuation}
 use Rattle.blocks.proofs.FaultLaws.{given-first}
 use Rattle.receiver.specs.Held.{newReceiver, settingsFit, freshOf}
 use Rattle.receiver.specs.declared.Fresh.{Fresh}
-use Rattle.demands.specs.Demand1.{Settles, rules, ReportRefused, Demand1}
+use Rattle.demands.specs.Demand1.{Settles, rules, Demand1}
 use Rattle.demands.specs.Demand2 as build
-use Rattle.demands.specs.Demand3.{Demand3}
 use Rattle.demands.specs.Calls.{Call}
 use Rattle.demands.proofs.Demand3Holds.{demand3}
 

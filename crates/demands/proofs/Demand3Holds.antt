@@ -1,23 +1,21 @@
 -- Demand 3 holds. Assumes nothing.
-use mathlib.Core.Path.{_≡_, refl, sym, ap, _∙_}
-use mathlib.Core.Logic.{_↔_}
+use mathlib.Core.Path.{_≡_, refl, ap, _∙_}
 use mathlib.Core.Bool.{Bool, true, false, cond}
 use mathlib.Core.List.{List, []}
-use Prim.Native.Nat.{ℕ, suc, _≤_}
+use Prim.Native.Nat.{ℕ, _≤_}
 use native.Mathlib.Omega.{arith}
 use lib.ListN.{length}
 use Rattle.store.specs.Store.{handed}
 use Rattle.blocks.specs.declared.header.Fields.{Fields}
-use Rattle.history.specs.Line.{Line, start, _▸_}
+use Rattle.history.specs.Line.{Line, start}
 use Rattle.history.specs.Slots.{no-fields, Report}
-use Rattle.history.specs.History.{History, Closes, Singles, Opens, Keeps, Copies, Drops, Told, nothing-told, single-told, joined-told, opened-told, kept-told, copy-told}
+use Rattle.history.specs.History.{History, Closes, Singles, Opens, Keeps, Copies, Told, nothing-told, single-told, joined-told, opened-told, kept-told, copy-told}
 use Rattle.history.proofs.Theorems.{theorem-unique, theorem-once}
 use Rattle.receiver.specs.Lent.{Lent}
-use Rattle.receiver.specs.Held.{settingsFit, freshOf, newReceiver}
-use Rattle.receiver.specs.Reached.{refusedWith, Leads, Answered, Hears}
+use Rattle.receiver.specs.Held.{settingsFit, newReceiver}
+use Rattle.receiver.specs.Reached.{Leads, Answered}
 use Rattle.receiver.specs.declared.unit.Settings.{Settings}
 use Rattle.receiver.specs.declared.Receiver.{Receiver}
-use Rattle.receiver.specs.declared.Reply.{Reply}
 use Rattle.receiver.specs.declared.Fresh.{Fresh}
 use Rattle.receiver.proofs.ReplyLaws.{handed-none}
 use Rattle.receiver.proofs.HearLaws.{passes, fresh-leads}

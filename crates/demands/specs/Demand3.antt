@@ -12,13 +12,13 @@ use Prim.Native.Nat.{ℕ, suc, _≤_}
 use lib.ListN.{length}
 use Rattle.store.specs.Store.{handed}
 use Rattle.blocks.specs.declared.header.Fields.{Fields}
-use Rattle.history.specs.Line.{Line, _▸_, _⧺_, Every}
+use Rattle.history.specs.Line.{_▸_, _⧺_, Every}
 use Rattle.history.specs.Slots.{no-fields, Report}
 use Rattle.history.specs.History.{History, NotFragmented, Closes, Singles, Opens, Keeps, Copies, Drops}
-use Rattle.receiver.specs.Lent.{Lent, faultIn}
+use Rattle.receiver.specs.Lent.{faultIn}
 use Rattle.receiver.specs.Held.{plainAnswer}
 use Rattle.receiver.specs.Reached.{refusedWith, receiverAt}
-use Rattle.demands.specs.Calls.{Calls, Call, history, now, answer}
+use Rattle.demands.specs.Calls.{Call, history, now, answer}
 
 -- Some header fields and some message for which this holds.
 pub record Some (P : Fields → List Bool → Type 0) : Type 0 where

@@ -1,7 +1,6 @@
 -- A stored run of slot reports over every rule of the receiver, by computation: what the step answers from a fresh receiver is what the table says. By demand
 -- 3's theorems that is what `hear` answers.
 use mathlib.Core.List.{List, [], _∷_}
-use Prim.Native.Nat.{ℕ}
 use mathlib.Core.Bool.{cond}
 use lib.ListN.{length}
 use Rattle.bits.specs.Bits.{bit, num, bitsN, bitsOf, bytesN, over, testBit}
@@ -10,12 +9,11 @@ use Rattle.blocks.specs.Widths.{entryOf, widthOf}
 use Rattle.blocks.specs.Sync.{syncOf, syncChecks}
 use Rattle.blocks.specs.Header.{fragmentedIn, toIn, fromIn, messageIn, widthIn, bodyOf, readReported}
 use Rattle.blocks.specs.Continuation.{readContinuation}
-use Rattle.history.specs.Slots.{Report}
 use Rattle.history.specs.Step.{State, number, message-of, fresh, step, answer}
 use Rattle.receiver.specs.Lent.{heard, faultIn}
 use Rattle.receiver.specs.Reached.{reportOf}
 use Rattle.receiver.specs.declared.unit.Settings.{Settings}
-use Rattle.demands.specs.Examples.{Example, AllHold, agree, hold}
+use Rattle.demands.specs.Examples.{Example, AllHold, hold}
 use Rattle.demands.specs.RunRows.{Row}
 use Rattle.demands.specs.RunTable.{table}
 

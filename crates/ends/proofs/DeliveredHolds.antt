@@ -1,10 +1,10 @@
 -- The law of the calls holds. Assumes nothing.
 use mathlib.Core.Path.{_≡_, refl, sym, ap, _∙_, subst}
 use mathlib.Core.Bool.{Bool, true, false}
-use Prim.Native.Nat.{ℕ, suc, _≤_}
+use Prim.Native.Nat.{ℕ, suc}
 use native.Mathlib.Omega.{arith}
 use Rattle.history.specs.Line.{Line, start, _▸_, _⧺_}
-use Rattle.history.specs.Slots.{next, Report}
+use Rattle.history.specs.Slots.{next}
 use Rattle.history.specs.History.{History, final, Copies}
 use Rattle.history.specs.Step.{Answer, single, joined, answer, after, outcome-at, dropped-at}
 use Rattle.history.proofs.Theorems.{theorem-joined, theorem-single, theorem-dropped}

@@ -1,6 +1,6 @@
 -- From `build` to hand-over. The blocks of a build that was not refused, reported in the slots of its layout with nothing in the other slots, are handed
 -- over by a receiver that they are for as exactly that message, exactly once, whatever the receiver had heard before.
-use Prim.Native.Nat.{ℕ, suc, _+_, _*_, _≤_, _<_}
+use Prim.Native.Nat.{ℕ, suc, _+_, _*_, _<_}
 use mathlib.Core.Path.{_≡_}
 use mathlib.Core.Bool.{Bool, true, false, cond}
 use mathlib.Core.List.{List, [], _++_}
@@ -8,16 +8,15 @@ use mathlib.Core.Logic.{_⊎_}
 use lib.Dec.{eqb}
 use lib.ListN.{length, take, drop}
 use Rattle.bits.specs.Bits.{bitsOf}
-use Rattle.blocks.specs.Faults.{firstOf}
 use Rattle.build.specs.Plan.{blocksFor}
 use Rattle.build.specs.Build.{buildOf, outOf, schS, schH}
 use Rattle.blocks.specs.declared.sync.Sync.{Sync}
 use Rattle.blocks.specs.declared.header.Fields.{Fields}
-use Rattle.history.specs.Line.{Line, start, _▸_, _⧺_, each}
+use Rattle.history.specs.Line.{Line, start, _▸_, _⧺_}
 use Rattle.history.specs.Slots.{next, due, Report}
 use Rattle.history.specs.History.{History, final, frames, Copies}
 use Rattle.history.specs.Step.{Outcome, quiet, single, joined, opened, kept, copy, answer, after, outcome-at}
-use Rattle.receiver.specs.Lent.{Lent, reportRules, for-unit, heard}
+use Rattle.receiver.specs.Lent.{Lent, for-unit}
 use Rattle.receiver.specs.Reached.{reportOf, reports, Accepted}
 use Rattle.history.specs.declared.Place.{Place}
 use Rattle.receiver.specs.declared.unit.Settings.{Settings}

@@ -12,7 +12,7 @@ use borrow.Author.Tests.{eqb-false}
 use Rattle.history.specs.Line.{start, _▸_, Every}
 use Rattle.history.specs.Slots.{Header, Heard, nothing, fragmented, unfragmented, frag, end}
 use Rattle.history.specs.declared.Place.{Place}
-use Rattle.history.specs.Step.{Open, in-turn, is-due, is-last, older, still, opening, unless, keeping, assembling, step, after}
+use Rattle.history.specs.Step.{Open, in-turn, is-due, is-last, still, opening, unless, keeping, assembling, step, after}
 use Rattle.history.specs.History.{History}
 
 -- What a read gives of a block: at most 124 bits in a header, at most 15 slots, a countdown below 4, 264 bits in a continuation.

@@ -1,22 +1,21 @@
 -- Each outcome and the dropped mark, as the step gives them and as the history asks for them. Assumes nothing.
-use Prim.Native.Nat.{ℕ, suc, _+_, _≤_}
+use Prim.Native.Nat.{ℕ, suc, _≤_}
 use native.Mathlib.Omega.{arith}
 use mathlib.Core.Path.{_≡_, refl, sym, _∙_, ap, ap₂, subst, subst⁻¹}
-use mathlib.Core.Logic.{_↔_}
 use mathlib.Core.Bool.{Bool, true, false, cond, not, _&&_}
-use mathlib.Core.List.{List, [], _∷_, _++_}
+use mathlib.Core.List.{List}
 use mathlib.Core.Option.{Option, none, some}
 use lib.Dec.{eqb}
 use borrow.Author.Tests.{eqb-true, eqb-false, eq-eqb, ne-eqb, not-true}
-use Rattle.history.specs.Line.{start, _▸_, _⧺_, count, Every}
+use Rattle.history.specs.Line.{_▸_, count}
 use Rattle.history.specs.Slots.{same-place, Header, Heard, nothing, fragmented, unfragmented, frag, end, Report}
 use Rattle.store.specs.Store.{same-bytes}
 use Rattle.store.proofs.Blocks.{same-is}
 use Rattle.blocks.specs.declared.header.Fields.{Fields}
 use Rattle.history.specs.declared.Place.{Place}
-use Rattle.history.specs.Step.{Open, Near, Outcome, Answer, quiet, single, joined, opened, kept, copy, number, fields-of, message-of, State, in-turn, repeats, older, still, assembling, unless, still-near, handing, frag-out, end-out, telling, dropping, drop-mark, step, answer, after, outcome-at, dropped-at}
-use Rattle.history.specs.History.{History, Unbroken, NotFragmented, Run, IsOpen, next-due, Closes, Keeps, Singles, Copies, Opens, DueKind, Repeats, Ends, broken, other-header, missed, Drops, Told, nothing-told, single-told, joined-told, opened-told, kept-told, copy-told}
-use Rattle.history.proofs.OpenRun.{and-true, same-bytes-is, same-place-true, same-place-is, turn-true, turn-is, report, shape, Holds, holds, found, At, step-at, left, again-true, again-is}
+use Rattle.history.specs.Step.{Open, Near, Outcome, quiet, single, joined, opened, kept, copy, in-turn, repeats, older, still, still-near, handing, frag-out, end-out, telling, dropping, drop-mark, answer, after, outcome-at, dropped-at}
+use Rattle.history.specs.History.{History, Unbroken, NotFragmented, Run, IsOpen, next-due, Closes, Keeps, Singles, Copies, Opens, DueKind, Repeats, Ends, broken, other-header, missed, Drops}
+use Rattle.history.proofs.OpenRun.{and-true, same-bytes-is, same-place-true, same-place-is, turn-true, turn-is, report, shape, Holds, holds, found, left, again-true, again-is}
 use Rattle.history.proofs.NearestHeader.{copy-test, copy-true, copy-is}
 
 -- What each outcome says of the history.

@@ -70,7 +70,7 @@ written-inside y c g n bytes lent = inside-when (buildFault y c g n bytes lent) 
     inside-when zero e = in-range y c g n bytes lent e .room
     inside-when (suc f) e = rw (ne-eqb (suc f) 0 (λ z. omega arith)) (omega arith)
 
-take-same : (k n a : ℕ) → k ≤ n → take k (replicate n a) ≡ replicate k a
+pub take-same : (k n a : ℕ) → k ≤ n → take k (replicate n a) ≡ replicate k a
 take-same zero n a h = refl
 take-same (suc k) zero a h = absurd (omega arith)
 take-same (suc k) (suc n) a h = rw (take-same k n a (omega arith)) refl

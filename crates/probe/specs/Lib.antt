@@ -1,3 +1,4 @@
 -- The definitions that the contracts of `probe` cite.
 pub mod Body
 pub mod Lines
+pub mod Reports

@@ -21,7 +21,7 @@ fn built(body: &[u8], out: &mut [u8], line: &mut [u8]) -> usize
 {
     let sync = body::sync(body);
     let fields = body::fields(body);
-    let n = body::four(body, 29) as usize;
+    let n = records::four(body, 29) as usize;
     let b = build::build(sync, body[4], fields, n, &body[35..], out);
     print::build(line, b, out)
 }
@@ -33,7 +33,7 @@ pub(crate) fn build(body: &[u8], line: &mut [u8]) -> Line
     if body.len() < 35 {
         return Line::Short;
     }
-    let lent = body::two(body[33], body[34]) as usize;
+    let lent = records::two(body[33], body[34]) as usize;
     if 1024 < lent {
         return unknown(line);
     }

@@ -1,7 +1,7 @@
 // Records from standard input.
 ghost use Rattle.probe.specs.Lines.{Held};
-use crate::body::two;
 use libc::STDIN_FILENO;
+use records::two;
 
 // What was read: a record's kind and the length of its body, which stands at the buffer's start.
 pub enum Taken {

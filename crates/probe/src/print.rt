@@ -4,10 +4,12 @@ ghost use Prim.Native.Nat.{_+_, _*_, _≤_, _<_};
 ghost use lib.ListN.{length, drop};
 ghost use Rattle.text.specs.Text.{Wrote};
 ghost use Rattle.probe.specs.Lines.{Stands, lineOf, startOf, hexText, restOf, shownOf, lineWith, writtenBy, buildText, headerNumbers, headerText, blockText, frameText};
+ghost use Rattle.probe.specs.Reports.{handedBy, answerNumbers, reportText, unitText};
 use blocks::continuation::Continuation;
 use blocks::header::Header;
 use blocks::slots::Due;
 use build::Built;
+use receiver::answer::Answer;
 
 // How many bytes of a buffer are a line; or there is none, since the record is too short for its kind.
 pub enum Line {
@@ -152,4 +154,40 @@ pub(crate) fn frame(out: &mut [u8], d: Due) -> usize
 {
     let ns = [d.fault as u64, d.frame as u64];
     line_of(out, b"frame", &ns)
+}
+
+pub(crate) fn unit(out: &mut [u8], fault: u8) -> usize
+    requires { ⌜ 512 ≤ length (now out) ⌝ }
+    ensures { λ r. ⌜ Stands (now (out .entry)) (unitText fault) (now (out .exit)) r ⌝ }
+{
+    let ns = [fault as u64];
+    line_of(out, b"unit", &ns)
+}
+
+fn answer_numbers(a: Answer) -> [u64; 12]
+    ensures { λ r. ⌜ r ≡ answerNumbers a ⌝ }
+{
+    let g = a.fields;
+    [
+        a.outcome as u64,
+        a.dropped as u64,
+        a.fault as u64,
+        a.bits as u64,
+        g.destination.kind as u64,
+        g.destination.ssi as u64,
+        g.source.kind as u64,
+        g.source.ssi as u64,
+        g.mni as u64,
+        g.message as u64,
+        g.width as u64,
+        g.elements,
+    ]
+}
+
+pub(crate) fn report(out: &mut [u8], a: Answer, s: &[u8]) -> usize
+    requires { ⌜ (handedBy a ≤ length (now s)) × (length (now s) ≤ 1024) × (4096 ≤ length (now out)) ⌝ }
+    ensures { λ r. ⌜ Stands (now (out .entry)) (reportText a (now (s .entry))) (now (out .exit)) r ⌝ }
+{
+    let ns = answer_numbers(a);
+    line_with(out, b"report", &ns, s, (a.bits + 7) / 8)
 }

@@ -1,33 +1,31 @@
 -- The receiver that has heard a list of accepted reports, and its answer to one more. Assumes nothing.
-use mathlib.Core.Path.{_≡_, refl, sym, ap, ap₂, _∙_, subst}
-use mathlib.Core.Logic.{_↔_}
+use mathlib.Core.Path.{_≡_, refl, sym, ap, _∙_}
 use mathlib.Core.Bool.{Bool, true, false, cond, _||_}
 use mathlib.Core.List.{List}
 use mathlib.Core.Option.{Option, none, some}
-use Prim.Native.Nat.{ℕ, zero, suc, _+_, _≤_}
+use Prim.Native.Nat.{ℕ, suc, _≤_}
 use native.Mathlib.Omega.{arith}
 use lib.Dec.{eqb, leb}
 use lib.ListN.{length, take, drop}
 use borrow.Author.Tests.{eqb-true, leb-true}
 use Rattle.store.specs.Store.{handed}
-use Rattle.blocks.specs.Faults.{firstOf}
 use Rattle.blocks.specs.Continuation.{readContinuation}
 use Rattle.blocks.proofs.FaultLaws.{all-zero, holds}
-use Rattle.history.specs.Line.{Line, start, _▸_, each, Every}
+use Rattle.history.specs.Line.{Line, start, _▸_, Every}
 use Rattle.history.specs.Slots.{Heard, nothing, Report}
-use Rattle.history.specs.History.{History, Drops}
-use Rattle.history.specs.Step.{Open, State, number, message-of, fields-of, in-turn, older, still, still-near, dropping, ends-here, drop-mark, telling, step, answer, after, outcome-at, dropped-at}
+use Rattle.history.specs.History.{History}
+use Rattle.history.specs.Step.{Open, State, message-of, in-turn, still, ends-here, drop-mark, telling, step, answer, after, outcome-at, dropped-at}
 use Rattle.receiver.specs.Lent.{Lent, brought, heardSlot, reportRules, headerIn, headerHeard, blockHeard, heard, faultIn}
-use Rattle.receiver.specs.Held.{passedBy, nothingIn, agedReceiver, lostAt, newReceiver, settingsFit}
+use Rattle.receiver.specs.Held.{passedBy, nothingIn, lostAt, newReceiver, settingsFit}
 use Rattle.receiver.specs.Taken.{headerTo, headerOver, blockTo, blockOver, takenBy, takenOver}
 use Rattle.receiver.specs.View.{assemblyOf, receiverOf, answerOf, replyOf}
-use Rattle.receiver.specs.Reached.{reportOf, reports, refusedWith, Accepted, receiverAt, Leads, Reached, Canonical, closed, assembling, Answered, Hears}
+use Rattle.receiver.specs.Reached.{reportOf, reports, refusedWith, Accepted, Leads, Reached, Canonical, closed, assembling, Answered, Hears}
 use Rattle.receiver.specs.declared.unit.Settings.{Settings}
 use Rattle.history.specs.declared.Place.{Place}
 use Rattle.receiver.specs.declared.Receiver.{Receiver}
 use Rattle.receiver.specs.declared.Reply.{Reply}
 use Rattle.history.proofs.Theorems.{theorem-told, theorem-dropped}
-use Rattle.history.proofs.Bounds.{Small, IsSmall, Sized, Framed, small-still, theorem-small}
+use Rattle.history.proofs.Bounds.{IsSmall, Sized, Framed, small-still, theorem-small}
 use Rattle.receiver.proofs.Rooms.{Roomy}
 use Rattle.receiver.proofs.ViewLaws.{place, Named, follows-is}
 use Rattle.receiver.proofs.ReplyLaws.{handed-none, nothing-reply, agedState, aged-is}

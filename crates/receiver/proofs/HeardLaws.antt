@@ -1,9 +1,9 @@
 -- What the receiver makes of a lent report is what the step makes of the report read. Assumes nothing.
-use mathlib.Core.Path.{_≡_, refl, sym, ap, ap₂, _∙_}
+use mathlib.Core.Path.{_≡_, refl, sym}
 use mathlib.Core.Bool.{Bool, true, false, cond}
 use mathlib.Core.List.{List}
 use mathlib.Core.Option.{Option, none, some}
-use Prim.Native.Nat.{ℕ, zero, suc, _+_, _-_, _*_, _≤_}
+use Prim.Native.Nat.{ℕ, zero, suc, _-_, _≤_}
 use native.Mathlib.Omega.{arith}
 use lib.Dec.{eqb}
 use lib.ListN.{length, take, drop}
@@ -11,7 +11,7 @@ use borrow.Author.Tests.{eqb-true, eqb-false, ne-eqb}
 use Rattle.bits.specs.Bits.{bitsOf}
 use Rattle.store.specs.Store.{without, handed}
 use Rattle.blocks.specs.Sdu.{bitsIn}
-use Rattle.blocks.specs.Header.{fragmentedIn, bodyOf, messageOf, readReported}
+use Rattle.blocks.specs.Header.{bodyOf, messageOf, readReported}
 use Rattle.blocks.specs.Continuation.{blockMessage, readContinuation}
 use Rattle.blocks.specs.declared.header.Header as read
 use Rattle.blocks.specs.declared.continuation.Continuation.{Continuation}
@@ -27,7 +27,7 @@ use Rattle.receiver.specs.declared.Receiver.{Receiver}
 use Rattle.receiver.specs.declared.Reply.{Reply}
 use Rattle.history.proofs.Bounds.{IsSmall, Sized}
 use Rattle.receiver.proofs.ViewLaws.{place}
-use Rattle.receiver.proofs.Readings.{WellRead, WellReadBlock, well-read, well-read-block, few-bits, small-bits}
+use Rattle.receiver.proofs.Readings.{WellRead, WellReadBlock, well-read, well-read-block, few-bits}
 use Rattle.receiver.proofs.ReplyLaws.{headerFrom, handed-none, nothing-reply, frag-reply, end-reply, end-over, fragmented-reply, unfragmented-reply, unfragmented-over}
 
 -- the message in a header, and in a continuation

@@ -5,3 +5,4 @@ pub mod Readings
 pub mod Rooms
 pub mod HeardLaws
 pub mod HearLaws
+pub mod AnswerLaws

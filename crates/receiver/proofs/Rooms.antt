@@ -1,10 +1,10 @@
 -- The room that is left in an assembly. Assumes nothing.
-use mathlib.Core.Path.{_≡_, refl}
+use mathlib.Core.Path.{_≡_}
 use mathlib.Core.Bool.{Bool, true, false}
 use Prim.Native.Nat.{ℕ, _+_, _≤_}
 use native.Mathlib.Omega.{arith}
 use Rattle.history.specs.Slots.{follows}
-use Rattle.receiver.specs.Held.{noAssembly, agedAssembly, agedReceiver}
+use Rattle.receiver.specs.Held.{agedAssembly, agedReceiver}
 use Rattle.receiver.specs.declared.assembly.Assembly.{Assembly}
 use Rattle.receiver.specs.declared.Receiver.{Receiver}
 

@@ -15,7 +15,6 @@ use Rattle.receiver.specs.declared.Receiver.{Receiver}
 use Rattle.receiver.specs.declared.answer.Answer.{Answer}
 use Rattle.receiver.specs.declared.Reply.{Reply}
 use Rattle.receiver.specs.declared.Fresh.{Fresh}
-use Rattle.receiver.specs.declared.unit.Settings.{Settings}
 
 abbrev pub waned : ℕ → ℕ → ℕ
 waned slot n = cond (eqb slot 1) (n - 1) n

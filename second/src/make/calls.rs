@@ -1,4 +1,4 @@
-//! Random files of call records: every kind of call, well-formed ones frequent.
+//! Random files of call records: every kind of call, well-formed ones frequent; and reports alone.
 
 use super::logs::{episodes, Slot};
 use super::parts::{damage_continuation, draw_continuation, draw_fields, lengths, record};
@@ -73,10 +73,25 @@ pub fn calls(seed: u64) -> Vec<u8> {
     records.concat()
 }
 
+/// A whole file of settings and reports: mutated runs, one close after the other.
+pub fn reports(seed: u64) -> Vec<u8> {
+    let mut rng = Rng::new(seed, 6);
+    let mut unit = Unit::draw(&mut rng);
+    let target = rng.index(400) + 200;
+    let mut records = vec![unit.record()];
+    while records.len() < target {
+        if rng.chance(10) {
+            new_settings(&mut rng, &mut unit, &mut records);
+        }
+        some_reports(&mut rng, &unit, &mut records);
+    }
+    records.concat()
+}
+
 fn some_calls(rng: &mut Rng, unit: &mut Unit, records: &mut Vec<Vec<u8>>) {
     match rng.below(40) {
-        0..=1 => reports(rng, unit, records),
-        2..=19 => records.push(draw_build(rng)),
+        0 => some_reports(rng, unit, records),
+        1..=19 => records.push(draw_build(rng)),
         20..=28 => records.push(draw_header_read(rng)),
         29..=33 => records.push(draw_block_read(rng)),
         34..=37 => records.push(draw_layout(rng)),
@@ -85,7 +100,7 @@ fn some_calls(rng: &mut Rng, unit: &mut Unit, records: &mut Vec<Vec<u8>>) {
     }
 }
 
-fn reports(rng: &mut Rng, unit: &Unit, records: &mut Vec<Vec<u8>>) {
+fn some_reports(rng: &mut Rng, unit: &Unit, records: &mut Vec<Vec<u8>>) {
     let target = rng.index(20) + 4;
     for slot in episodes(rng, unit, target) {
         if rng.chance(4) {

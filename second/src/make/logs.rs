@@ -2,9 +2,10 @@
 
 use super::parts::{damage_continuation, draw_continuation, record};
 use super::parts::{Message, Raw, Unit, HEADER_FAULTS};
+use super::records;
 use super::rng::Rng;
-use crate::blocks::NO_ADDRESS;
-use crate::layout::{due_frame, next_frame};
+use crate::blocks::{header_bits, NO_ADDRESS};
+use crate::layout::{due_frame, next_frame, BLOCK_ROOM, COUNT_WIDTH, HEADER_ROOM};
 
 /// A report to be written. `due`: a continuation block was sent here.
 #[derive(Clone)]
@@ -13,11 +14,11 @@ pub struct Slot {
     pub slot: u8,
     pub kind: u8,
     pub blocks: Vec<u8>,
-    due: bool,
+    pub due: bool,
 }
 
 impl Slot {
-    fn nothing((frame, slot): (u8, u8)) -> Slot {
+    pub fn nothing((frame, slot): (u8, u8)) -> Slot {
         Slot {
             frame,
             slot,
@@ -27,7 +28,7 @@ impl Slot {
         }
     }
 
-    fn put(&mut self, kind: u8, blocks: Vec<u8>) {
+    pub fn put(&mut self, kind: u8, blocks: Vec<u8>) {
         self.kind = kind;
         self.blocks = blocks;
     }
@@ -41,86 +42,70 @@ impl Slot {
         (1..=18).contains(&self.frame) && (self.slot == 1 || self.slot == 3)
     }
 
-    fn record(&self) -> Vec<u8> {
-        let body = [&[self.frame, self.slot], &self.blocks[..]].concat();
-        record(self.kind.into(), &body)
+    /// A record's body: frame, slot and the blocks.
+    pub fn body(&self) -> Vec<u8> {
+        [&[self.frame, self.slot], &self.blocks[..]].concat()
+    }
+
+    pub fn record(&self) -> Vec<u8> {
+        record(self.kind.into(), &self.body())
     }
 }
 
 /// The slot that comes after a slot.
-fn after((frame, slot): (u8, u8)) -> (u8, u8) {
+pub fn after((frame, slot): (u8, u8)) -> (u8, u8) {
     match slot {
         1 => (frame, 3),
         _ => (next_frame(frame), 1),
     }
 }
 
-/// A whole slot log.
+/// A whole slot log: some 50 to 400 reports, with records between them that are none.
 pub fn log(seed: u64) -> Vec<u8> {
     let mut rng = Rng::new(seed, 1);
     let unit = Unit::draw(&mut rng);
     let target = rng.index(320) + 50;
     let mut slots = episodes(&mut rng, &unit, target);
     slots.truncate(400);
-    let mut records: Vec<Vec<u8>> = slots.iter().map(Slot::record).collect();
-    for _ in 0..rng.below(4) {
-        let at = rng.index(records.len());
-        records.insert(at, odd_record(&mut rng));
-    }
-    if rng.chance(25) {
+    let odd_ones = rng.index(5);
+    let mut records = with_odd_ones(&mut rng, &unit, &slots, odd_ones);
+    let near = &slots[rng.index(slots.len())];
+    if rng.chance(20) {
         let at = records.len() - rng.index(records.len() / 10 + 1);
-        records.insert(at, cut_record(&mut rng));
+        records.insert(at, records::cut(&mut rng, near));
     }
-    let first = if rng.chance(5) {
-        no_unit(&mut rng, &unit)
+    let first = if rng.chance(8) {
+        records::no_unit(&mut rng, &unit, near)
     } else {
         unit.record()
     };
-    [first, records.concat()].concat()
-}
-
-/// A record that prints `kind`.
-fn odd_record(rng: &mut Rng) -> Vec<u8> {
-    let (kind, length) = match rng.below(5) {
-        0 => (
-            rng.pick(&[4, 5, 9, 255, 256, 257, 513, 65_535]),
-            rng.index(40),
-        ),
-        1 => (0, rng.index(3) + 12),
-        2 => (1, rng.index(34) + 3),
-        3 => (2, rng.index(10) + 27),
-        _ => (3, rng.index(10) + 37),
-    };
-    record(kind, &rng.bytes(length))
-}
-
-/// A record that prints `cut`; whatever comes after it is not read.
-fn cut_record(rng: &mut Rng) -> Vec<u8> {
-    match rng.below(4) {
-        0 => vec![rng.below(2) as u8, 0],
-        1 => vec![0xFF, 0xFF, 1, 0, 5, 1],
-        2 => vec![4, 0x80, 1, 0],
-        _ => {
-            let (kind, length) = rng.pick(&[(0, 12), (1, 2), (2, 26), (3, 36)]);
-            let shorter = rng.index(length);
-            record(kind, &rng.bytes(shorter))
-        }
+    let mut log = [first, records.concat()].concat();
+    match rng.below(40) {
+        0 => log.clear(),
+        1 => log.push(rng.below(256) as u8),
+        2..=5 => log.truncate(rng.index(log.len())),
+        _ => (),
     }
+    log
 }
 
-/// A first record that prints `unit`.
-fn no_unit(rng: &mut Rng, unit: &Unit) -> Vec<u8> {
-    let large = 1 << 24;
-    let mut wrong = unit.clone();
-    match rng.below(6) {
-        0 => return Vec::new(),
-        1 => return record(0, &rng.bytes(11)),
-        2 => return record(0, &[0; 13]),
-        3 => wrong.individual = large,
-        4 => wrong.group = large,
-        _ => wrong.mni = large,
+/// A long slot log: some 20,000 reports, and no record that stops the printer.
+pub fn long_log(seed: u64) -> Vec<u8> {
+    let mut rng = Rng::new(seed, 8);
+    let unit = Unit::draw(&mut rng);
+    let slots = episodes(&mut rng, &unit, 20_000);
+    let records = with_odd_ones(&mut rng, &unit, &slots, 200);
+    [unit.record(), records.concat()].concat()
+}
+
+/// The slots' records, and so many between them that print `kind`.
+fn with_odd_ones(rng: &mut Rng, unit: &Unit, slots: &[Slot], count: usize) -> Vec<Vec<u8>> {
+    let mut records: Vec<Vec<u8>> = slots.iter().map(Slot::record).collect();
+    for _ in 0..count {
+        let at = rng.index(slots.len());
+        records.insert(at, records::odd(rng, unit, &slots[at]));
     }
-    wrong.record()
+    records
 }
 
 /// Reports of so many slots, and on to the end of the last run.
@@ -198,7 +183,8 @@ fn draw_run(rng: &mut Rng, unit: &Unit, x: u8) -> Vec<Slot> {
 /// Fourteen or fifteen blocks after four frames of headers, of which one is heard.
 fn longest(rng: &mut Rng, unit: &Unit, x: u8) -> Vec<Slot> {
     let mut message = for_this_unit(rng, unit, true);
-    let n = rng.between(3_700, 3_964);
+    let head = HEADER_ROOM - COUNT_WIDTH - header_bits(&message.fields);
+    let n = rng.between(3_700, (head + 15 * BLOCK_ROOM) as u64);
     message.bits = rng.bits(n as usize);
     let mut run = send(&message, x, 3);
     let heard = if rng.chance(70) { 0 } else { rng.index(8) };
@@ -217,14 +203,14 @@ fn send_twice(message: &Message, x: u8, f: u8) -> Vec<Slot> {
     run
 }
 
-fn draw_message(rng: &mut Rng, unit: &Unit, ours: bool, fragmented: bool) -> Message {
+pub fn draw_message(rng: &mut Rng, unit: &Unit, ours: bool, fragmented: bool) -> Message {
     match ours {
         true => for_this_unit(rng, unit, fragmented),
         false => for_another(rng, unit, fragmented),
     }
 }
 
-fn for_this_unit(rng: &mut Rng, unit: &Unit, fragmented: bool) -> Message {
+pub fn for_this_unit(rng: &mut Rng, unit: &Unit, fragmented: bool) -> Message {
     let mut message = Message::draw(rng, fragmented);
     message.fields.dest = rng.pick(&[unit.individual, unit.group]);
     message.fields.mni = unit.mni;
@@ -232,7 +218,7 @@ fn for_this_unit(rng: &mut Rng, unit: &Unit, fragmented: bool) -> Message {
 }
 
 /// Another address, another MNI, a pseudo address, or none.
-fn for_another(rng: &mut Rng, unit: &Unit, fragmented: bool) -> Message {
+pub fn for_another(rng: &mut Rng, unit: &Unit, fragmented: bool) -> Message {
     let mut message = for_this_unit(rng, unit, fragmented);
     let fields = &mut message.fields;
     match rng.below(4) {
@@ -245,7 +231,7 @@ fn for_another(rng: &mut Rng, unit: &Unit, fragmented: bool) -> Message {
 }
 
 /// A message in its slots: the header with its repeats, then the blocks, nothing between.
-fn send(message: &Message, x: u8, f: u8) -> Vec<Slot> {
+pub fn send(message: &Message, x: u8, f: u8) -> Vec<Slot> {
     let mut slots = Vec::new();
     let mut place = (x, 1);
     for _ in 0..2 * (f + 1) {
@@ -262,7 +248,7 @@ fn send(message: &Message, x: u8, f: u8) -> Vec<Slot> {
     slots
 }
 
-fn push(slots: &mut Vec<Slot>, place: (u8, u8), kind: u8, blocks: Vec<u8>) -> (u8, u8) {
+pub fn push(slots: &mut Vec<Slot>, place: (u8, u8), kind: u8, blocks: Vec<u8>) -> (u8, u8) {
     let mut slot = Slot::nothing(place);
     slot.put(kind, blocks);
     slot.due = kind == 3;
@@ -283,7 +269,7 @@ fn interleave(rng: &mut Rng, run: &mut [Slot], other: &[Slot]) {
 
 /// One change to a run of slots.
 fn mutate(rng: &mut Rng, unit: &Unit, run: &mut Vec<Slot>) {
-    match rng.below(24) {
+    match rng.below(25) {
         0 => miss(rng, run),
         1 => other_kind_of_block(rng, run),
         2 | 3 => stray_header(rng, unit, run, false),
@@ -299,6 +285,7 @@ fn mutate(rng: &mut Rng, unit: &Unit, run: &mut Vec<Slot>) {
         18 => refused_report(rng, run),
         19 | 20 => second_sender(rng, unit, run),
         21 => few_headers_left(rng, run),
+        24 => flipped_bit(rng, run),
         _ => eighteen_frames_later(rng, run),
     }
 }
@@ -384,6 +371,15 @@ fn damaged_header(rng: &mut Rng, run: &mut [Slot]) {
                 raw.damage(rng, fault);
             }
         });
+    }
+}
+
+/// One bit of a header or a block is another, any one of them.
+fn flipped_bit(rng: &mut Rng, run: &mut [Slot]) {
+    if let Some(at) = any(rng, run, |slot| !slot.blocks.is_empty()) {
+        let blocks = &mut run[at].blocks;
+        let bit = rng.index(8 * blocks.len());
+        blocks[bit / 8] ^= 0x80 >> (bit % 8);
     }
 }
 

@@ -1,6 +1,6 @@
 //! How often each answer comes in the made inputs of a range of seeds.
 
-use super::{calls, log};
+use super::{calls, log, reports};
 use crate::{log::print, probe::probe};
 use std::collections::BTreeMap;
 use std::fmt::Write;
@@ -10,15 +10,17 @@ type Counts = BTreeMap<String, [u64; COLUMNS.len()]>;
 
 const COLUMNS: [&str; 7] = ["log", "report", "build", "header", "block", "frame", "unit"];
 
-/// Makes and runs the logs and call files of these seeds.
+/// Makes and runs the logs, the call files and the reports of these seeds.
 pub fn stats(from: u64, to: u64) -> String {
     let mut counts = rows();
     for seed in from..=to {
         for line in print(&log(seed)).lines() {
             count_log_line(&mut counts, line);
         }
-        for line in probe(&calls(seed)).lines() {
-            count_call_line(&mut counts, line);
+        for given in [calls(seed), reports(seed)] {
+            for line in probe(&given).lines() {
+                count_call_line(&mut counts, line);
+            }
         }
     }
     table(&counts)
@@ -109,7 +111,9 @@ mod tests {
     fn the_same_seed_gives_the_same_input() {
         assert_eq!(log(7), log(7));
         assert_eq!(calls(7), calls(7));
+        assert_eq!(reports(7), reports(7));
         assert_ne!(log(7), log(8));
         assert_ne!(calls(7), calls(8));
+        assert_ne!(reports(7), reports(8));
     }
 }

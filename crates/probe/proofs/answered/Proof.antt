@@ -1,19 +1,18 @@
 use native.Mathlib.Omega.{arith}
 use lib.ListN.{replicate, length-take}
-use Rattle.probe.specs.Lines.{recordLine}
-use Rattle.probe.proofs.Printing.{line-fits}
+use Rattle.probe.proofs.Telling.{told-fits}
 use borrow.Author.Needs.{needs}
 use Rattle.probe.proofs.answered.Statement.{statement}
 use Rattle.probe.proofs.answered.Tie as tie
 
-slice-aggregate-answer : tie.Need-slice-aggregate-answer
-slice-aggregate-answer c = search needs
+slice-aggregate-tell : tie.Need-slice-aggregate-tell
+slice-aggregate-tell c = search needs
 
-answer-requires : tie.Need-answer-requires
-answer-requires c κs = search needs
+tell-requires : tie.Need-tell-requires
+tell-requires c κs = search needs
 
-enum-known-n : tie.Need-enum-known-n
-enum-known-n c = search needs
+enum-known-said : tie.Need-enum-known-said
+enum-known-said c = search needs
 
 enum-told : tie.Need-enum-told
 enum-told c = search needs
@@ -25,7 +24,7 @@ returns : tie.Need-returns
 returns c = search needs
 
 array-share-prefix-line : tie.Need-array-share-prefix-line
-array-share-prefix-line c = let a = c .before .before .before .before .before .before .before .args in line-fits (replicate 4096 0) (recordLine (a .kind) (a .body .now)) (c .before .before .before .before .answer .last .1 .1 .0) (c .before .n .given .1) (c .before .before .before .before .answer .ensures)
+array-share-prefix-line c = let a = c .before .before .before .before .before .before .before .before .args in told-fits (a .before) (a .kind) (a .body .now) (replicate 4096 0) _ (c .before .before .before .before .before .tell .result) (c .before .said .given .1) (c .before .before .before .before .before .tell .ensures .1)
 
 slice-aggregate-write-all : tie.Need-slice-aggregate-write-all
 slice-aggregate-write-all c = let f = array-share-prefix-line (c .before) in simp length-take (omega arith)
@@ -40,9 +39,9 @@ pub answered-spec : {M : Type 1} → statement M
 answered-spec =
     tie.close
     (tie.spec
-    slice-aggregate-answer
-    answer-requires
-    enum-known-n
+    slice-aggregate-tell
+    tell-requires
+    enum-known-said
     enum-told
     cut-requires
     returns

@@ -1,12 +1,16 @@
+use Rattle.receiver.specs.Reached.{Reached}
 use borrow.Author.Needs.{needs}
 use Rattle.probe.proofs.main.Statement.{statement}
 use Rattle.probe.proofs.main.Tie as tie
 
 abbrev Inv-loop : tie.InvT-loop
-Inv-loop turns₀ turns = Unit {0}
+Inv-loop step₀ turns₀ step turns = Reached (step .receiver)
 
 abbrev μ-loop : tie.MeasureT-loop
-μ-loop turns₀ turns = turns
+μ-loop step₀ turns₀ step turns = turns
+
+fresh-requires : tie.Need-fresh-requires Inv-loop μ-loop
+fresh-requires c κs = search needs
 
 loop-holds : tie.Need-loop-holds Inv-loop μ-loop
 loop-holds c = search needs
@@ -35,6 +39,7 @@ main-spec =
     (tie.spec
     Inv-loop
     μ-loop
+    fresh-requires
     loop-holds
     next-requires
     sub-turns

@@ -1,5 +1,4 @@
-use mathlib.Core.Path.{refl, sym, ap, _∙_}
-use Prim.Native.Nat.{ℕ, _≤_}
+use mathlib.Core.Path.{refl, sym}
 use native.Mathlib.Omega.{arith}
 use borrow.Author.Tests.{eq-eqb, ne-eqb}
 use mathlib.Core.Path.{_≡_}
@@ -11,13 +10,6 @@ use Rattle.receiver.proofs.Rooms.{aged-room}
 use borrow.Author.Needs.{needs}
 use Rattle.receiver.proofs.Receiver.accepted.Statement.{statement}
 use Rattle.receiver.proofs.Receiver.accepted.Tie as tie
-use Rattle.receiver.proofs.Receiver.accepted.Reads as reads
-use Rattle.receiver.proofs.Receiver.accepted.Lts as lts
-use Rattle.receiver.proofs.Receiver.aged.Reads as aged-reads
-use Rattle.receiver.proofs.Receiver.lost_at.Reads as lost-at-reads
-use Rattle.receiver.proofs.Receiver.on_block.Reads as on-block-reads
-use Rattle.receiver.proofs.Receiver.on_header.Reads as on-header-reads
-use Rattle.receiver.proofs.Receiver.on_nothing.Reads as on-nothing-reads
 
 -- src/lib.rt:304:13
 lost-at-requires : tie.Need-lost-at-requires

@@ -4,11 +4,6 @@ use Rattle.receiver.proofs.HearLaws.{roomy, passes, not-heard, was-hear
 use borrow.Author.Needs.{needs}
 use Rattle.receiver.proofs.Receiver.hear.Statement.{statement}
 use Rattle.receiver.proofs.Receiver.hear.Tie as tie
-use Rattle.receiver.proofs.Receiver.hear.Reads as reads
-use Rattle.receiver.proofs.Receiver.hear.Lts as lts
-use Rattle.receiver.proofs.Receiver.accepted.Reads as accepted-reads
-use Rattle.receiver.proofs.Receiver.passed_by.Reads as passed-by-reads
-use Rattle.receiver.proofs.report.report_rules.Reads as report-rules-reads
 
 report-rules-requires : tie.Need-report-rules-requires
 report-rules-requires c κs = search needs

@@ -1,18 +1,11 @@
 use Rattle.receiver.specs.Taken.{blockTo, blockOver}
-use mathlib.Core.Path.{refl, sym, ap, _∙_}
-use Prim.Native.Nat.{ℕ, _≤_}
+use mathlib.Core.Path.{refl, sym}
 use native.Mathlib.Omega.{arith}
 use borrow.Author.Tests.{eq-eqb, ne-eqb}
 use Rattle.receiver.proofs.Readings.{few-bits, in-continuation, block-held}
 use borrow.Author.Needs.{needs}
 use Rattle.receiver.proofs.Receiver.on_block.Statement.{statement}
 use Rattle.receiver.proofs.Receiver.on_block.Tie as tie
-use Rattle.receiver.proofs.Receiver.on_block.Reads as reads
-use Rattle.receiver.proofs.Receiver.on_block.Lts as lts
-use Rattle.blocks.proofs.continuation.read_continuation.Reads as read-continuation-reads
-use Rattle.receiver.proofs.Receiver.on_end.Reads as on-end-reads
-use Rattle.receiver.proofs.Receiver.on_frag.Reads as on-frag-reads
-use Rattle.receiver.proofs.Receiver.on_nothing.Reads as on-nothing-reads
 
 -- src/lib.rt:288:13
 read-continuation-requires : tie.Need-read-continuation-requires

@@ -1,18 +1,11 @@
 use Rattle.receiver.specs.Taken.{headerTo, headerOver}
-use mathlib.Core.Path.{refl, sym, ap, _∙_}
-use Prim.Native.Nat.{ℕ, _≤_}
+use mathlib.Core.Path.{refl, sym}
 use native.Mathlib.Omega.{arith}
 use borrow.Author.Tests.{eq-eqb, ne-eqb}
 use Rattle.receiver.proofs.Readings.{small-bits, in-header, header-held}
 use borrow.Author.Needs.{needs}
 use Rattle.receiver.proofs.Receiver.on_header.Statement.{statement}
 use Rattle.receiver.proofs.Receiver.on_header.Tie as tie
-use Rattle.receiver.proofs.Receiver.on_header.Reads as reads
-use Rattle.receiver.proofs.Receiver.on_header.Lts as lts
-use Rattle.blocks.proofs.header.read_reported.Reads as read-reported-reads
-use Rattle.receiver.proofs.Receiver.on_fragmented.Reads as on-fragmented-reads
-use Rattle.receiver.proofs.Receiver.on_nothing.Reads as on-nothing-reads
-use Rattle.receiver.proofs.Receiver.on_unfragmented.Reads as on-unfragmented-reads
 
 -- src/lib.rt:273:13
 read-reported-requires : tie.Need-read-reported-requires

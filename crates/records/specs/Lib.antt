@@ -1,0 +1,2 @@
+-- The numbers of a record.
+pub mod Numbers

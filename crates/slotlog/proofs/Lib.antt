@@ -1,0 +1,4 @@
+pub mod LogLaws
+pub mod RunLaws
+pub mod RoomLaws
+pub mod PrinterLaws

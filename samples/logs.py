@@ -1,0 +1,113 @@
+#!/usr/bin/env python3
+"""The sample logs: for each story of stories.py its slot log (.log), what the printer prints for it (.txt), and the story line by line (.md).
+
+logs.py            write the files
+logs.py --check    exit 1, and say where, if a stored file is not the one that this makes, or if a program prints something else
+
+What is printed was worked out by hand. The second program has to print the same, and with --check the proved printer too. june.calls has the
+reports of june.log as call records, for `probe`, which also shows the message; june.calls.txt is what it prints.
+"""
+import inspect
+import os
+import sys
+
+import stories
+from stories import second
+
+HERE = os.path.dirname(os.path.abspath(__file__))
+
+
+def table(log):
+    """The rows of a story; three or more in turn with the same words take one line."""
+    yield "| line | printed | what was heard |"
+    yield "|---|---|---|"
+    line, rows = 1, [(printed, words) for _, printed, words in log.rows]
+    while rows:
+        (printed, words), alike = rows[0], 1
+        while printed and alike < len(rows) and rows[alike][1] == words:
+            alike += 1
+        if printed is None:
+            yield "| - | | %s |" % words
+            alike = 1
+        elif alike < 3:
+            yield "| %d | `%s` | %s |" % (line, printed, words)
+            alike = 1
+        else:
+            yield "| %d to %d | `%s` to `%s` | %s |" % (line, line + alike - 1, printed, rows[alike - 1][0], words)
+        line += alike
+        rows = rows[alike:]
+
+
+def story(name, log):
+    title, _, rest = inspect.getdoc(stories.LOGS[name]).partition("\n")
+    before, _, after = rest.strip().partition("\n\n---\n\n")
+    shown = "`%s.log` prints `%s.txt`: `./print-log samples/%s.log`. A line is frame, slot, outcome, dropped, fault, bits (docs/READING-THE-LOG.md)." % (name, name, name)
+    return "\n".join(["# " + title, "", before, "", shown, ""] + list(table(log)) + ["", after, ""])
+
+
+def calls(log):
+    """The reports of a log as call records, each with a buffer of 512 bytes."""
+    reports = [data for data, _, _ in log.rows]
+    return log.start + b"".join(second.record(4, data[4:6] + data[2:3] + (512).to_bytes(2, "little") + data[6:]) for data in reports)
+
+
+def made():
+    files = {}
+    for name, tell in stories.LOGS.items():
+        log = tell()
+        files[name + ".log"], files[name + ".txt"], files[name + ".md"] = log.data(), log.text().encode("ascii"), story(name, log).encode("utf-8")
+    given = calls(stories.june())
+    files["june.calls"], files["june.calls.txt"] = given, second.run("probe", given=given)
+    return files
+
+
+def runs(files):
+    """(program, file, printed, should be) for each sample and each program that prints it."""
+    for name in stories.LOGS:
+        given, text = files[name + ".log"], files[name + ".txt"]
+        yield "the second program", name + ".log", second.run("print", given=given), text
+        if sys.argv[1:]:
+            yield "the printer", name + ".log", second.run_printer(given), text
+    if sys.argv[1:]:
+        yield "probe", "june.calls", second.run_probe(files["june.calls"]), files["june.calls.txt"]
+
+
+def first_difference(one, other):
+    """The number of the first line that differs, and both."""
+    ones, others = one.split(b"\n"), other.split(b"\n")
+    number = next((n for n, (a, b) in enumerate(zip(ones, others)) if a != b), min(len(ones), len(others)) - 1)
+    shown = [lines[number][:200] for lines in (ones, others)]
+    return "line %d is\n  %r\nand should be\n  %r" % (number + 1, *shown)
+
+
+def compare(files):
+    for name, data in files.items():
+        path = os.path.join(HERE, name)
+        if not os.path.exists(path):
+            sys.exit("logs: there is no samples/%s" % name)
+        with open(path, "rb") as file:
+            stored = file.read()
+        if stored != data:
+            sys.exit("logs: samples/%s: %s" % (name, first_difference(stored, data)))
+
+
+def main():
+    if sys.argv[1:] not in ([], ["--check"]):
+        sys.exit(__doc__)
+    second.build()
+    files = made()
+    for program, name, printed, should_be in runs(files):
+        if printed != should_be:
+            sys.exit("logs: %s, samples/%s: %s" % (program, name, first_difference(printed, should_be)))
+    if sys.argv[1:]:
+        compare(files)
+        print("logs: the %d files of the samples are those of today, and the programs print them" % len(files))
+        return
+    for name, data in files.items():
+        with open(os.path.join(HERE, name), "wb") as file:
+            file.write(data)
+    print("logs: wrote %d files" % len(files))
+
+
+if __name__ == "__main__":
+    main()

@@ -1,0 +1,346 @@
+"""What the units heard, story by story: the reports of each sample log, and beside each what it is answered, worked out by hand.
+
+An answer is outcome, dropped, fault and bits, as printed after frame and slot.
+"""
+import os
+import sys
+
+sys.path.insert(0, os.path.join(os.path.dirname(os.path.abspath(__file__)), "..", "tests"))
+import second
+
+DESK, SITES, NETWORK = 5001, 900, 901  # the unit at the hire desk, the group of all sites, the MNI
+OTHER_DESK, CAGE_2, CAGE_3 = 5002, 7, 8
+# DM-SDS DATA (23) and DM-SDS ACK (24), with the width and the number of their elements.
+DATA, ACK = dict(message=23, width=8, elements=0b1001_0_01_0), dict(message=24, width=1, elements=0)
+
+OPENS, KEPT, NOTHING, LOST = "3 0 0 0", "4 0 0 0", "0 0 0 0", "0 1 0 0"
+
+
+def joined(text):
+    return "2 0 0 %d" % (8 * len(text))
+
+
+class Message:
+    """A text from a cage, to the hire desk if nothing else is said: built for each slot that its header goes out in."""
+
+    def __init__(self, text, to=DESK, source=CAGE_2, sort=DATA):
+        self.text, self.fields = text, dict(system=13, usage=0, to_type=0, to=to, from_type=0, source=source, mni=NETWORK, **sort)
+
+    def built(self, place, countdown):
+        frame, slot = place
+        text = self.text.encode("ascii")
+        call = second.build_record(text, slot=slot - 1, frame=frame, countdown=countdown, n=8 * len(text), lent=1024, **self.fields)
+        word, fault, k, run, _ = second.lines(second.run("probe", given=call))[0].split()
+        assert (word, fault) == ("build", "0")
+        data = bytes.fromhex(run)
+        return [data[:24]] + [data[24 + 34 * i:58 + 34 * i] for i in range(int(k))]
+
+
+class Log:
+    """Reports one after another, from a place on. A row is a record, what is printed for it (None if it is not read), and words."""
+
+    def __init__(self, frame, slot, settings=True):
+        self.place, self.rows = (frame, slot), []
+        self.start = second.record(0, b"".join(n.to_bytes(4, "little") for n in (DESK, SITES, NETWORK))) if settings else b""
+
+    def at(self, frame, slot):
+        self.place = (frame, slot)
+
+    def say(self, kind, data, answer, words):
+        frame, slot = self.place
+        self.rows.append((second.record(kind, bytes([frame, slot]) + data), "%d %d %s" % (frame, slot, answer), words))
+        self.place = (frame, 3) if slot == 1 else (frame % 18 + 1, 1)
+
+    def nothing(self, words="nothing was heard", count=1, answer=NOTHING):
+        for _ in range(count):
+            self.say(1, b"", answer, words)
+
+    def header(self, message, answer, words, countdown=0, spoil=None, place=None):
+        """`spoil` turns bits of one byte; `place` is the one that the header itself names, where it is not the report's."""
+        data = message.built(place or self.place, countdown)[0]
+        if spoil:
+            at, bits = spoil
+            data = data[:at] + bytes([data[at] ^ bits]) + data[at + 1:]
+        self.say(2, data, answer, words)
+
+    def block(self, message, i, answer, words, spoil=0):
+        data = message.built((1, 1), 0)[i]
+        self.say(3, bytes([data[0] ^ spoil]) + data[1:], answer, words)
+
+    def record(self, data, printed, words):
+        """A record that is no report of the next slot."""
+        self.rows.append((data, printed, words))
+
+    def data(self):
+        return self.start + b"".join(data for data, _, _ in self.rows)
+
+    def text(self):
+        return "".join(printed + "\n" for _, printed, _ in self.rows if printed is not None)
+
+
+def june():
+    """June: an answer over frame 18
+
+    The unit at the hire desk had asked cage 2 for hire 4711, and cage 2 answered. The answer takes a header and three blocks. Its header goes out in frames 16 and 17, so its
+    first block would be due in frame 18; but blocks never go out in frame 18, and it comes in frame 1. The log is what a unit at the desk hears, and what a right one prints.
+
+    ---
+
+    ## What the unit of June made of it
+
+    It counted frame 18 as due. Slot 1 of frame 18 brought no block, so it dropped the answer there. From line 6 on it printed
+
+        18 1 0 1 0 0
+        18 3 0 0 0 0
+        1 1 0 0 0 0
+
+    and never a 2. The desk had no answer, so it sent the hire again; cage 2 had booked it already, booked it again and answered again (line 30). That answer begins in frame 12 and
+    ends before frame 18, so the desk got it. One hire, two bills: 118, which nobody at the desk had seen, and 119.
+
+    A 1 under *dropped* in frame 18 is the sign to look for. No block is due there, so a right unit prints it only where another message's header was heard in that slot, or over a break.
+    """
+    log = Log(15, 3)
+    first = Message("Hire 4711 booked: hammer kit 12, drill kit 3, tunnel 5, cage 2, bill 118")
+    again = Message("Hire 4711 booked: hammer kit 12, drill kit 3, tunnel 5, cage 2, bill 119")
+    log.nothing()
+    log.header(first, OPENS, "cage 2's answer begins: its header says that three blocks follow, and that the header itself comes again in the next frame", 1)
+    log.header(first, OPENS, "the header again, in slot 3; a repeat opens the same assembly anew and drops nothing", 1)
+    log.header(first, OPENS, "once more, a frame on", 0)
+    log.header(first, OPENS, "the last repeat", 0)
+    log.nothing("**frame 18: no block is due in it.** A right unit waits")
+    log.nothing("slot 3 of frame 18")
+    log.block(first, 1, KEPT, "frame 1: the first block, kept")
+    log.nothing("slot 3 is never due")
+    log.block(first, 2, KEPT, "the second block, kept")
+    log.nothing()
+    log.block(first, 3, joined(first.text), "the last block: the whole answer is handed over, 576 bits, 72 characters")
+    log.nothing("the unit of June sends the hire again in this time; a unit hears nothing while it sends", 17)
+    log.header(again, OPENS, "cage 2 has booked the hire a second time, and answers that")
+    log.header(again, OPENS, "the same in slot 3")
+    log.block(again, 1, KEPT, "first block")
+    log.nothing()
+    log.block(again, 2, KEPT, "second block")
+    log.nothing()
+    log.block(again, 3, joined(again.text), "the second answer is handed over: bill 119 for the hire of bill 118")
+    return log
+
+
+def second_cage():
+    """A second cage starts between two of ours
+
+    Cage 2 sends the desk a message of three blocks, three times over. Each time cage 3 starts between two of its blocks: with a message for another desk, with one for this desk, and with
+    a short one that fits into its header.
+
+    ---
+
+    A fragmented header says whose the next blocks are, whoever it is for. A unit that went on with cage 2's message would take cage 3's blocks for cage 2's.
+    """
+    log = Log(5, 1)
+    ours = Message("Hire 4802 back: drill kit 7 from quarry 2, one bit worn, cage 2, paid 40")
+    theirs = Message("Hire 4803: hammer kit 4 for tunnel 1, cage 3", to=OTHER_DESK, source=CAGE_3)
+    later = Message("Hire 4804: hammer kit 9 for quarry 6, cage 3", source=CAGE_3)
+    short = Message("K12", source=CAGE_3, sort=ACK)
+
+    def begin(what):
+        log.header(ours, OPENS, what)
+        log.header(ours, OPENS, "its header again")
+        log.block(ours, 1, KEPT, "its first block, kept")
+
+    begin("cage 2 begins a message of three blocks for the desk")
+    log.header(theirs, LOST, "**cage 3 begins a message of two blocks for another desk.** The air is cage 3's now: ours is dropped")
+    log.block(theirs, 1, NOTHING, "cage 3's first block: not for this unit")
+    log.nothing()
+    log.block(theirs, 2, NOTHING, "cage 3's last block: not for this unit either")
+    log.nothing()
+    begin("cage 2 tries again")
+    log.header(later, "3 1 0 0", "**cage 3 begins a message for this desk.** Ours is dropped, and cage 3's opens, in one report")
+    log.block(later, 1, KEPT, "cage 3's first block")
+    log.nothing()
+    log.block(later, 2, joined(later.text), "cage 3's message is whole and handed over")
+    log.nothing()
+    begin("cage 2 tries a third time")
+    log.header(short, "1 0 0 24", "**cage 3 says in one header that kit 12 is back.** It is handed over at once, and outside due slots such a header does not touch an open assembly")
+    log.block(ours, 2, KEPT, "cage 2's second block")
+    log.nothing()
+    log.block(ours, 3, joined(ours.text), "cage 2's message is whole and handed over")
+    return log
+
+
+def missed_block():
+    """A block that was missed
+
+    One hire, sent four times. Three blocks follow its header, each due in slot 1 of the next frame. Three times the second block goes wrong.
+
+    ---
+
+    Each lost try shows one 1 under *dropped*, at the due slot where it went wrong; after that, the blocks that still come are nothing to the unit. Only a whole message is handed over.
+    """
+    log = Log(4, 1)
+    hire = Message("Hire 4810: drill kit 2 and hammer kit 6 for quarry 3, two days, cage 2..")
+
+    def begin(words):
+        log.header(hire, OPENS, words)
+        log.nothing()
+        log.block(hire, 1, KEPT, "the first block, kept")
+        log.nothing()
+
+    begin("a message of three blocks begins")
+    log.nothing("**the second block is due here and was not heard:** the assembly is dropped", answer=LOST)
+    log.nothing()
+    log.block(hire, 3, NOTHING, "the last block comes, but nothing is open any more")
+    log.nothing()
+    begin("the cage sends it again")
+    log.block(hire, 3, LOST, "**the last block where the second is due:** a unit that only waits for a last block would hand over a hire with a hole in it")
+    log.nothing()
+    log.nothing("nothing is due any more")
+    log.nothing()
+    begin("and again")
+    log.block(hire, 2, "0 1 12 0", "**the second block, damaged on the way:** fault 12; it counts as nothing heard, so the assembly is dropped", spoil=0x80)
+    log.nothing()
+    log.block(hire, 3, NOTHING, "too late")
+    log.nothing()
+    begin("and once more")
+    log.nothing("frame 18 comes between two due slots: nothing is missed in it", 2)
+    log.block(hire, 2, KEPT, "the second block")
+    log.nothing()
+    log.block(hire, 3, joined(hire.text), "the last block: handed over")
+    return log
+
+
+def copies():
+    """Copies of a header
+
+    A header goes out in slots 1 and 3 of a frame, and again in up to three frames more, its countdown falling by one with each. So a unit hears the same short message up to eight times and has to
+    hand it over once.
+
+    ---
+
+    A copy has outcome 5. A header that opens an assembly has outcome 3 with each repeat; the message is handed over once, with its last block.
+    """
+    log = Log(3, 1)
+    back = Message("K12", sort=ACK)
+    other = Message("D03", to=SITES, source=CAGE_3, sort=ACK)
+    hire = Message("Hire 4820: hammer kit 1, tunnel 4")
+    log.header(back, "1 0 0 24", "cage 2: kit 12 is back. One header, handed over; its countdown says that it comes in two more frames", 2)
+    log.header(back, "5 0 0 0", "the same in slot 3: a copy, not handed over", 2)
+    log.header(back, "5 0 0 0", "a frame on, the countdown one less: a copy", 1)
+    log.nothing("one repeat was not heard; the next is held against the last one that was")
+    log.header(back, "5 0 0 0", "a copy", 0)
+    log.header(back, "5 0 0 0", "a copy", 0)
+    log.header(back, "1 0 0 24", "**the same header with the countdown at 2 again:** it did not fall with the frames, so this is a new message", 2)
+    log.header(back, "5 0 0 0", "its copy", 2)
+    log.header(other, "1 0 0 24", "**cage 3 in between,** to all sites: drill kit 3 is back. The group is one of this unit's addresses, so this is handed over", 0)
+    log.header(back, "1 0 0 24", "**cage 2's header again.** It is held against the nearest earlier one, which was cage 3's: no copy, so it is handed over once more", 1)
+    log.nothing()
+    log.nothing()
+    log.header(hire, OPENS, "a longer message begins; its header opens an assembly", 1)
+    log.header(hire, OPENS, "its repeats open it anew: outcome 3 each time, and dropped stays 0", 1)
+    log.header(hire, OPENS, "a frame on", 0)
+    log.header(hire, OPENS, "the last repeat", 0)
+    log.block(hire, 1, joined(hire.text), "its one block: handed over, once")
+    return log
+
+
+def goes_back():
+    """A report that goes back, and one that comes twice
+
+    After slot 1 comes slot 3 of the same frame, then slot 1 of the next. A report that doesn't follow the last one is a break: the unit can't know what it missed, so an open assembly is dropped.
+
+    ---
+
+    A break itself prints nothing. It shows in the first two columns alone, and where something was open, in a 1 under *dropped*.
+    """
+    log = Log(10, 1)
+    hire = Message("Hire 4830: drill kit 5, quarry 2, out 06:40, back by Friday")
+    back = Message("K07", sort=ACK)
+    log.header(hire, OPENS, "a message of two blocks begins")
+    log.nothing()
+    log.block(hire, 1, KEPT, "its first block")
+    log.at(11, 1)
+    log.block(hire, 1, LOST, "**the same report a second time.** Slot 3 of frame 11 should follow: a break, and the assembly is dropped")
+    log.nothing()
+    log.block(hire, 2, NOTHING, "the last block finds nothing open")
+    log.nothing()
+    log.header(hire, OPENS, "the message again")
+    log.nothing()
+    log.block(hire, 1, KEPT, "its first block")
+    log.at(13, 3)
+    log.nothing("**a report of a slot that has been already:** a break; dropped", answer=LOST)
+    log.nothing("what follows it counts from there", 4)
+    log.header(hire, OPENS, "the message a third time")
+    log.nothing()
+    log.block(hire, 1, KEPT, "its first block")
+    log.at(1, 1)
+    log.block(hire, 2, LOST, "**slots were left out:** after slot 1 of frame 17 comes its slot 3. The last block is in its due slot, but over a break nothing is joined: dropped")
+    log.header(back, "1 0 0 24", "a short message: kit 7 is back")
+    log.at(1, 3)
+    log.header(back, "1 0 0 24", "**the same report a second time:** over a break nothing is a copy, so it is handed over again")
+    return log
+
+
+def copy_18_later():
+    """The same header eighteen frames later
+
+    Frame numbers come round every eighteen frames, about once a second. Kit 12 is back twice within that time.
+
+    ---
+
+    Frames gone by are counted one by one: eighteen have gone by, and the countdown has not fallen by eighteen. A unit that compared frame numbers would see none gone by, take the second for a copy and lose it.
+    """
+    log = Log(5, 1)
+    back = Message("K12", sort=ACK)
+    log.header(back, "1 0 0 24", "kit 12 is back: handed over")
+    log.nothing(count=35)
+    log.header(back, "1 0 0 24", "**the same bits in the same slot of the same frame number, eighteen frames later.** No copy: handed over again")
+    log.header(back, "5 0 0 0", "straight after it, in slot 3: a copy")
+    return log
+
+
+def damaged():
+    """Damaged blocks and damaged records
+
+    A fault number is about what the radio heard, or about a report that can't be; the words `kind` and `cut` are about the file.
+
+    ---
+
+    A line with fault 15 or 16 is a report that has not happened: the next report is held against the one before it.
+    """
+    log = Log(6, 1)
+    hire = Message("Hire 4840: hammer kit 3, tunnel 2")
+    back = Message("K12", sort=ACK)
+    log.header(back, "0 0 2 0", "fault 2: a pad bit is set, so the block is not as a radio gives it", spoil=(23, 1))
+    log.header(back, "0 0 3 0", "fault 3: no system code of direct mode", spoil=(0, 0x80))
+    log.header(back, "0 0 6 0", "fault 6: the header says that it is encrypted", spoil=(2, 0x08))
+    log.header(back, "0 0 18 0", "fault 18: the header names frame 6, the report frame 7", place=(6, 3))
+    log.header(hire, OPENS, "a message of one block begins")
+    log.record(second.record(9, b"cage 2"), "kind", "a record of kind 9, which there is not: skipped")
+    log.record(log.start, "kind", "the settings again: they go first and once, so this is skipped and the unit stays as it is")
+    log.record(second.record(1, [8, 3, 0]), "kind", "a report of kind 1 that is a byte too long: skipped")
+    log.record(second.record(1, [19, 1]), "19 1 0 0 15 0", "fault 15: there is no frame 19. The report has not happened")
+    log.record(second.record(1, [8, 2]), "8 2 0 0 16 0", "fault 16: reports are of slots 1 and 3. This one has not happened either")
+    log.nothing("slot 3 of frame 8: it follows the header, since nothing between them was a report that counts")
+    log.block(hire, 1, joined(hire.text), "the block, in its due slot: handed over. All of those left the open assembly alone")
+    log.block(hire, 1, "0 0 12 0", "fault 12: an SCH/F that is no continuation block", spoil=0x80)
+    log.record(second.record(2, [10, 1, 0xD0]), "cut", "a record of kind 2 with three bytes: shorter than its kind. The printer stops")
+    log.record(second.record(1, [10, 3]), None, "a good report: it is not read")
+    return log
+
+
+def no_unit():
+    """A log without its unit
+
+    The first record has to be the unit's settings: its individual address, its group and its network. Here it was lost.
+
+    ---
+
+    `unit` is all that such a log prints. Have the log taken from the unit again, from its start.
+    """
+    log = Log(5, 1, settings=False)
+    log.record(second.record(1, [5, 1]), "unit", "the log starts with a report: nobody knows whose it is. The printer stops")
+    log.record(second.record(0, b"".join(n.to_bytes(4, "little") for n in (DESK, SITES, NETWORK))), None, "the settings, too late: not read")
+    log.record(second.record(1, [5, 3]), None, "not read")
+    return log
+
+
+LOGS = {"june": june, "second-cage": second_cage, "missed-block": missed_block, "copies": copies, "goes-back": goes_back,
+        "copy-18-later": copy_18_later, "damaged": damaged, "no-unit": no_unit}

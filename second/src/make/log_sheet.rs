@@ -1,0 +1,318 @@
+//! The fixed sheet of reports: a slot log over every rule of the receiver, for one unit.
+
+use super::logs::{after, draw_message, episodes, for_another, for_this_unit, push, send, Slot};
+use super::parts::{damage_continuation, draw_continuation, record};
+use super::parts::{Message, Raw, Unit, HEADER_FAULTS};
+use super::records;
+use super::rng::Rng;
+use crate::blocks::{header_bits, HEADER_BYTES, SCH_F_BYTES};
+use crate::layout::{BLOCK_ROOM, COUNT_WIDTH, HEADER_ROOM};
+
+/// A change at one report of a run: what is put there, or before it, or after it.
+type Change = fn(&mut Rng, &Unit, &mut Vec<Slot>, usize);
+
+/// The sheet as far as it is written.
+struct Sheet {
+    rng: Rng,
+    unit: Unit,
+    records: Vec<Vec<u8>>,
+}
+
+/// The whole sheet, with a record that is cut at its end and a report after that.
+pub fn slots() -> Vec<u8> {
+    let mut sheet = Sheet {
+        rng: Rng::new(0, 9),
+        unit: Unit {
+            individual: 5_001,
+            group: 900,
+            mni: 901,
+        },
+        records: Vec::new(),
+    };
+    sheet.records.push(sheet.unit.record());
+    sheet.every_run();
+    sheet.every_change();
+    sheet.every_countdown();
+    sheet.every_copy();
+    sheet.every_header_fault();
+    sheet.every_place();
+    sheet.mutated();
+    sheet.longest_records();
+    sheet.records.push(record(2, &[5, 1, 0xD0]));
+    sheet.tell(&[Slot::nothing((5, 1))]);
+    sheet.records.concat()
+}
+
+impl Sheet {
+    fn tell(&mut self, slots: &[Slot]) {
+        self.records.extend(slots.iter().map(Slot::record));
+    }
+
+    /// A fragmented message for this unit of so many blocks.
+    fn message(&mut self, blocks: usize) -> Message {
+        let mut message = for_this_unit(&mut self.rng, &self.unit, true);
+        let head = HEADER_ROOM - COUNT_WIDTH - header_bits(&message.fields);
+        let last = self.rng.index(BLOCK_ROOM - 4) + 5;
+        message.bits = self.rng.bits(head + (blocks - 1) * BLOCK_ROOM + last);
+        message
+    }
+
+    /// Every frame X with every F, one to fifteen blocks; all headers heard, or one of them.
+    fn every_run(&mut self) {
+        for x in 1..=18 {
+            for f in 0..=3 {
+                let blocks = (5 * x as usize + 3 * f as usize) % 15 + 1;
+                let mut run = send(&self.message(blocks), x, f);
+                let headers = 2 * (usize::from(f) + 1);
+                let heard = self.rng.index(2 * headers);
+                for at in (0..headers).filter(|&at| heard < headers && at != heard) {
+                    run[at].put(1, Vec::new());
+                }
+                self.tell(&run);
+            }
+        }
+    }
+
+    /// Every change at every due slot of runs of one to three blocks, and at the slot before it.
+    fn every_change(&mut self) {
+        let mut x = 0;
+        for change in CHANGES {
+            for (blocks, i) in [(1, 0), (2, 0), (2, 1), (3, 0), (3, 1), (3, 2)] {
+                for before in 0..=1 {
+                    x = x % 18 + 1;
+                    let mut run = send(&self.message(blocks), x, 0);
+                    let due = (0..run.len()).filter(|&at| run[at].due).nth(i);
+                    let at = due.expect("the block has a slot") - before;
+                    change(&mut self.rng, &self.unit, &mut run, at);
+                    self.tell(&run);
+                }
+            }
+        }
+    }
+
+    /// A header and the same one again up to eight slots later, with every two countdowns.
+    fn every_countdown(&mut self) {
+        for fragmented in [false, true] {
+            for first in 0..=3 {
+                for second in 0..=3 {
+                    for gap in 0..=8 {
+                        let message = for_this_unit(&mut self.rng, &self.unit, fragmented);
+                        let place = (self.rng.between(1, 18) as u8, self.rng.pick(&[1, 3]));
+                        self.tell(&twice(&message, place, (first, second), gap));
+                    }
+                }
+            }
+        }
+    }
+
+    /// A repeat that fits, with something between the two or with another bit in one of them.
+    fn every_copy(&mut self) {
+        for fragmented in [false, true] {
+            for between in COPIES {
+                for gone in 0..=3 {
+                    let message = for_this_unit(&mut self.rng, &self.unit, fragmented);
+                    let place = (self.rng.between(1, 18) as u8, 1);
+                    let gap = 2 * usize::from(gone) + 1;
+                    let mut run = twice(&message, place, (3, 3 - gone), gap);
+                    between(&mut self.rng, &self.unit, &mut run, gap / 2 + 1);
+                    self.tell(&run);
+                }
+            }
+        }
+    }
+
+    /// Every fault of a header by itself, and every two of them.
+    fn every_header_fault(&mut self) {
+        for first in HEADER_FAULTS {
+            for second in HEADER_FAULTS {
+                let fragmented = self.rng.chance(50);
+                let message = for_this_unit(&mut self.rng, &self.unit, fragmented);
+                let frame = self.rng.between(1, 18) as u8;
+                let mut slots = twice(&message, (frame, 1), (0, 0), 0);
+                if let Some(mut raw) = Raw::of(&slots[1].blocks) {
+                    raw.damage(&mut self.rng, first);
+                    raw.damage(&mut self.rng, second);
+                    slots[1].put(2, raw.bytes());
+                }
+                self.tell(&slots);
+            }
+        }
+    }
+
+    /// Frames and slots that there are and that there are not, with each kind of report.
+    fn every_place(&mut self) {
+        for frame in [0, 1, 17, 18, 19, 20, 31, 32, 128, 255] {
+            for slot in [0, 1, 2, 3, 4, 5, 128, 129, 254, 255] {
+                for (kind, bytes) in [(1, 0), (2, HEADER_BYTES), (3, SCH_F_BYTES)] {
+                    let mut report = Slot::nothing((frame, slot));
+                    report.put(kind, vec![0x60; bytes]);
+                    self.tell(&[report]);
+                }
+            }
+        }
+    }
+
+    /// Mutated runs, with records between them that are no reports.
+    fn mutated(&mut self) {
+        for slot in episodes(&mut self.rng, &self.unit, 2_000) {
+            if self.rng.chance(3) {
+                let odd = records::odd(&mut self.rng, &self.unit, &slot);
+                self.records.extend((odd.len() < 1_000).then_some(odd));
+            }
+            self.tell(&[slot]);
+        }
+    }
+
+    /// Records that are skipped, up to the longest that there is, within a run.
+    fn longest_records(&mut self) {
+        let mut run = send(&self.message(3), 16, 1).into_iter();
+        for length in [4_096, 4_097, 32_766, 65_533] {
+            self.tell(&run.by_ref().take(2).collect::<Vec<Slot>>());
+            self.records.push(record(9, &vec![0; length]));
+        }
+        self.records.push(record(3, &[0x60; 37]));
+        self.tell(&run.collect::<Vec<Slot>>());
+    }
+}
+
+/// A header, so many slots of nothing, and the same header again.
+fn twice(message: &Message, place: (u8, u8), countdowns: (u8, u8), gap: usize) -> Vec<Slot> {
+    let mut slots = Vec::new();
+    let header = |place: (u8, u8), countdown| message.blocks(place.0, place.1, countdown).remove(0);
+    let mut next = push(&mut slots, place, 2, header(place, countdowns.0));
+    for _ in 0..gap {
+        next = push(&mut slots, next, 1, Vec::new());
+    }
+    push(&mut slots, next, 2, header(next, countdowns.1));
+    slots
+}
+
+/// Puts a header of another message into a slot.
+fn put_header(rng: &mut Rng, unit: &Unit, slot: &mut Slot, ours: bool, fragmented: bool) {
+    let message = draw_message(rng, unit, ours, fragmented);
+    let countdown = rng.below(4) as u8;
+    let header = message.blocks(slot.frame, slot.slot, countdown).remove(0);
+    slot.put(2, header);
+}
+
+/// A block where there is none, or the one that is there, with this fault.
+fn put_fault(rng: &mut Rng, slot: &mut Slot, fault: u8) {
+    if slot.kind != 3 {
+        slot.put(3, draw_continuation(rng, true));
+    }
+    damage_continuation(rng, &mut slot.blocks, fault);
+}
+
+/// What can go wrong, or seem to, at a report of a run.
+const CHANGES: [Change; 22] = [
+    |_, _, run, at| run[at].put(1, Vec::new()),
+    |rng, _, run, at| run[at].put(3, draw_continuation(rng, false)),
+    |rng, _, run, at| run[at].put(3, draw_continuation(rng, true)),
+    |rng, _, run, at| put_fault(rng, &mut run[at], 2),
+    |rng, _, run, at| put_fault(rng, &mut run[at], 12),
+    |rng, _, run, at| put_fault(rng, &mut run[at], 11),
+    |rng, unit, run, at| put_header(rng, unit, &mut run[at], true, false),
+    |rng, unit, run, at| put_header(rng, unit, &mut run[at], false, false),
+    |rng, unit, run, at| put_header(rng, unit, &mut run[at], true, true),
+    |rng, unit, run, at| put_header(rng, unit, &mut run[at], false, true),
+    |rng, unit, run, at| {
+        put_header(rng, unit, &mut run[at], true, true);
+        run[at].blocks[HEADER_BYTES - 1] |= 1;
+    },
+    // The run's own header once more, as it was.
+    |_, _, run, at| {
+        if let Some(mut raw) = Raw::of(&run[0].blocks) {
+            raw.sch_s.frame = run[at].frame.into();
+            raw.sch_s.slot = u64::from(run[at].slot) - 1;
+            run[at].put(2, raw.bytes());
+        }
+    },
+    // No message bits, or one bit of fill.
+    |_, _, run, at| {
+        let last = run[at].blocks.first().map_or(0x20, |byte| byte & 0x20);
+        run[at].put(3, [&[0x58 | last][..], &[0; 33]].concat());
+    },
+    |_, _, run, at| {
+        let last = run[at].blocks.first().map_or(0x20, |byte| byte & 0x20);
+        run[at].put(3, [&[0x50 | last][..], &[0; 32], &[0x10]].concat());
+    },
+    // Breaks: left out, told twice, gone back, gone on.
+    |_, _, run, at| drop(run.remove(at)),
+    |_, _, run, at| run.insert(at, run[at].clone()),
+    |_, _, run, at| run.insert(at, run[at - 1].clone()),
+    |_, _, run, at| run.insert(at + 1, run[at - 1].clone()),
+    |_, _, run, at| {
+        run.truncate(at);
+        let place = (run[at - 1].frame, run[at - 1].slot);
+        run.push(Slot::nothing(after(after(place))));
+    },
+    // Refused reports have not happened.
+    |_, _, run, at| {
+        let mut refused = run[at].clone();
+        refused.frame = 19;
+        run.insert(at, refused);
+    },
+    |_, _, run, at| {
+        let mut refused = run[at].clone();
+        refused.slot = 2;
+        run.insert(at, refused);
+    },
+    |_, _, _, _| (),
+];
+
+/// What may come between a header and its repeat, or be another in one of the two.
+const COPIES: [Change; 12] = [
+    |_, _, _, _| (),
+    |rng, unit, run, at| put_header(rng, unit, &mut run[at], true, false),
+    |rng, unit, run, at| put_header(rng, unit, &mut run[at], false, false),
+    |rng, unit, run, at| put_header(rng, unit, &mut run[at], true, true),
+    |rng, unit, run, at| put_header(rng, unit, &mut run[at], false, true),
+    |rng, _, run, at| run[at].put(3, draw_continuation(rng, true)),
+    |_, _, run, at| run.insert(at, run[at - 1].clone()),
+    |_, _, run, at| drop(run.remove(at)),
+    // A bit of SCH/S, and one of SCH/H.
+    |rng, _, run, _| {
+        let slot = run.last_mut().expect("a run has reports");
+        slot.blocks[0] = rng.pick(&[0xA0, 0xF0]);
+    },
+    |rng, _, run, _| {
+        let slot = run.last_mut().expect("a run has reports");
+        slot.blocks[8] ^= 1 << rng.below(8);
+    },
+    // The repeat is a whole multiframe later: the same frame, and no copy.
+    |_, _, run, _| {
+        let repeat = run.pop().expect("a run has reports");
+        let mut next = (repeat.frame, repeat.slot);
+        for _ in 0..36 {
+            next = push(run, next, 1, Vec::new());
+        }
+        run.push(repeat);
+    },
+    |rng, unit, run, at| {
+        let other = for_another(rng, unit, false);
+        let (frame, slot) = (run[at].frame, run[at].slot);
+        run[at].put(2, other.blocks(frame, slot, 0).remove(0));
+    },
+];
+
+#[cfg(test)]
+mod tests {
+    use super::*;
+    use crate::log::print;
+
+    #[test]
+    fn every_answer_is_there() {
+        let lines = print(&slots());
+        let column = |number: usize, value: u8| {
+            let wanted = value.to_string();
+            let words = |line: &str| line.split(' ').nth(number) == Some(&wanted);
+            assert!(lines.lines().any(words), "{value} in column {number}");
+        };
+        (0..=5).for_each(|outcome| column(2, outcome));
+        (0..=1).for_each(|dropped| column(3, dropped));
+        let faults = [0, 2, 3, 4, 5, 6, 7, 8, 9, 10, 11, 12, 15, 16, 18];
+        faults.into_iter().for_each(|fault| column(4, fault));
+        assert!(lines.contains("\nkind\n"));
+        assert!(lines.ends_with("\ncut\n"));
+    }
+}
