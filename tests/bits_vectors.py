@@ -217,13 +217,28 @@ def at_random(chance):
         yield dict(call="end", x=chance.below(9), y=chance.below(8 * len(t) - 7), t=t)
 
 
+def lengths(chance):
+    """Every call on lent runs about eight bytes long, at the first bit, at the end and between."""
+    for size in (1, 2, 6, 7, 8, 9):
+        s, t, most = chance.run(size), chance.run(size), 8 * size
+        for w in sorted({1, min(7, most), min(32, most), min(55, most), min(56, most)}):
+            for x in sorted({0, (most - w) // 2, most - w, most - w + 1}):
+                for call in ("get", "get8", "get32", "put"):
+                    yield dict(call=call, x=x, y=w, v=chance.below(2 ** w), s=s)
+                for call in ("clear", "fill", "last_one"):
+                    yield dict(call=call, x=x, y=x + w, s=s)
+                yield dict(call="copy", x=x, y=most - w - min(x, most - w), z=w, s=s, t=t)
+                yield dict(call="put_all", x=x, s=s, t=parts([w // 2, w - w // 2], [chance.below(2 ** (w // 2)), chance.below(2 ** (w - w // 2))]))
+
+
 def vectors():
     """Each record with what it shows and the line that answers it."""
     for shows, fields, line in HAND:
         if fields["call"] in CALLS and answer(**fields) != line:
             sys.exit("%s: by hand %s, by the model %s" % (shows, line, answer(**fields)))
         yield shows, record(**fields), line
-    for shows, made in (("an edge", edges()), ("at random", at_random(Chance(b"pierstrand bits")))):
+    chance = Chance(b"pierstrand bits")
+    for shows, made in (("an edge", edges()), ("at random", at_random(chance)), ("about eight bytes", lengths(chance))):
         for fields in made:
             yield "%s: %s" % (shows, fields), record(**fields), answer(**fields)
     # the last: its second run has a byte less than its head says

@@ -3,12 +3,11 @@ use mathlib.Core.Path.{_≡_, refl, sym, ap, ap₂, _∙_}
 use mathlib.Core.Bool.{Bool}
 use mathlib.Core.List.{List, [], _∷_, _++_, append-assoc, append-nil}
 use Prim.Native.Nat.{ℕ, zero, suc, _+_, _-_, _*_, _/_, _%_, _^_, _≤_, _<_}
-use native.Mathlib.Nat.{lt-of-lt-of-le}
 use native.Mathlib.Omega.{arith}
 use lib.ListN.{length, take, drop, getD, length-append, length-take, length-drop, take-append-drop}
-use lib.Bits.{bitOr, or-shifted}
-use lib.Seq.{length-slice, take-nil, drop-nil, take-suc, drop-append-le, slice, drop-drop, take-append-add, drop-append-add, take-at, drop-at}
-use lib.Pow.{shl-exact, pow-mono}
+use lib.Bits.{bitOr, or-shifted-r}
+use lib.Seq.{length-slice, take-nil, drop-nil, slice, slice-cons, slice-empty, drop-drop, take-append-add, drop-append-add, take-at, drop-at}
+use lib.Pow.{shl-exact}
 use Rattle.bits.specs.Bits.{num, bitsN, bitsOf, bytesN, AllBytes}
 use Rattle.bits.proofs.Numbers.{length-bitsN, num-append, num-lt, num-bitsN, bitsN-is, num-take-lt, num-field, take-of-drop}
 
@@ -101,33 +100,32 @@ bytes-drop (suc n) (x ∷ xs) h = bytes-drop n xs (h .1)
 
 -- ---- a number loaded from bytes, and a field of it
 
--- one byte more
-pub slice-snoc : (f t : ℕ) (s : List ℕ) → f ≤ t → t < length s → slice f (suc t) s ≡ slice f t s ++ (getD s t 0 ∷ [])
-slice-snoc f t s h k =
-    rw (take-suc s t 0 k, drop-append-le f (take t s) (getD s t 0 ∷ []) (rw (length-take t s) (omega arith))) refl
-
-pub num-snoc : (f t : ℕ) (s : List ℕ) → f ≤ t → t < length s → getD s t 0 < 256
-    → num (bitsOf (slice f (suc t) s)) ≡ num (bitsOf (slice f t s)) * 2 ^ 8 + getD s t 0
-num-snoc f t s h k b =
-    rw (
-      slice-snoc f t s h k,
-      bitsOf-append (slice f t s) (getD s t 0 ∷ []),
-      bitsOf-one (getD s t 0),
-      num-append (bitsOf (slice f t s)) (bitsN 8 (getD s t 0)),
-      length-bitsN 8 (getD s t 0),
-      num-bitsN 8 (getD s t 0) b,
-    ) refl
-
 pub length-bitsOf-slice : (f t : ℕ) (s : List ℕ) → t ≤ length s → length (bitsOf (slice f t s)) ≡ 8 * (t - f)
 length-bitsOf-slice f t s h = length-bitsOf (slice f t s) ∙ ap (λ (n : ℕ). 8 * n) (length-slice f t s h)
 
--- a turn of the loop that loads
-pub load-step : (s : List ℕ) (f t acc b : ℕ) → f ≤ t → t < length s → t < f + 8 → getD s t 0 < 256
-    → acc ≡ num (bitsOf (slice f t s)) → b ≡ getD s t 0 → bitOr (acc * 2 ^ 8 % 2 ^ 64) b ≡ num (bitsOf (slice f (suc t) s))
-load-step s f t acc b h k w lt e eb =
-    let short : length (bitsOf (slice f t s)) ≤ 56 = rw (length-bitsOf-slice f t s (omega arith)) (omega arith) in
-    let small : acc < 2 ^ 56 = rw e (lt-of-lt-of-le (num-lt (bitsOf (slice f t s))) (pow-mono short)) in
-    rw (shl-exact 56 8 64 small (omega arith), or-shifted acc 8 b (omega arith), num-snoc f t s h k lt, e, eb) refl
+-- a turn of the loop that loads: one byte more, before those that were loaded
+pub load-step : (s : List ℕ) (j t acc b low : ℕ) → j < t → t ≤ length s → t ≤ j + 8 → getD s j 0 < 256 → low ≡ 8 * (t - suc j)
+    → acc ≡ num (bitsOf (slice (suc j) t s)) → b ≡ getD s j 0 → bitOr acc (b * 2 ^ low % 2 ^ 64) ≡ num (bitsOf (slice j t s))
+unfolding bitsOf
+load-step s j t acc b low h k l lt el e eb =
+    let m = bitsOf (slice (suc j) t s) in
+    let n : length m ≡ low = length-bitsOf-slice (suc j) t s k ∙ sym el in
+    let small : acc < 2 ^ low = rw (e, ← n) (num-lt m) in
+    rw (
+      shl-exact {a = b} 8 low 64 (omega arith) (omega arith),
+      or-shifted-r b low acc small,
+      slice-cons j t s 0 h k,
+      num-append (bitsN 8 (getD s j 0)) m,
+      num-bitsN 8 (getD s j 0) lt,
+      n,
+      e,
+      eb,
+    ) refl
+
+-- one byte as a number
+pub num-byte : (s : List ℕ) (i : ℕ) → i < length s → getD s i 0 < 256 → num (bitsOf (slice i (suc i) s)) ≡ getD s i 0
+num-byte s i h b =
+    rw (slice-cons i (suc i) s 0 (omega arith) h, slice-empty (suc i) s, bitsOf-one (getD s i 0), num-bitsN 8 (getD s i 0) b) refl
 
 -- a field, from the bytes that hold it
 pub field-of : (s : List ℕ) (at w f t : ℕ) → 8 * f ≤ at → at + w ≤ 8 * t → t ≤ length s

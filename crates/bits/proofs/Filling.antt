@@ -3,14 +3,15 @@ use mathlib.Core.Path.{_≡_, refl, sym, ap, ap₂, _∙_}
 use mathlib.Core.Bool.{Bool, true, false}
 use mathlib.Core.List.{List, [], _∷_, _++_, append-nil}
 use mathlib.Core.Option.{Option, none, some}
-use Prim.Native.Nat.{ℕ, zero, suc, _+_, _-_, _≤_, _<_}
-use native.Mathlib.Nat.{add-zero, mul-one, sub-self, sub-zero}
+use Prim.Native.Nat.{ℕ, zero, suc, _+_, _-_, _*_, _/_, _^_, _≤_, _<_}
+use native.Mathlib.Nat.{add-zero, one-mul, mul-one, sub-self, sub-zero, div-self}
 use native.Mathlib.Omega.{arith}
 use lib.ListN.{length, take, drop, getD, replicate, length-take, take-append-drop, length-replicate, length-append, replicate-append-replicate}
+use lib.Pow.{pow-pos}
 use lib.Seq.{slice, slice-cons, length-slice, drop-cons, drop-append-le, take-take}
 use Rattle.bits.specs.Bits.{bit, num, bitsN, testBit, over}
 use Rattle.bits.specs.Fill.{before, strip, foundAt, fillBits, filled}
-use Rattle.bits.proofs.Numbers.{bitsN-zero}
+use Rattle.bits.proofs.Numbers.{bitsN-high, bitsN-zero}
 use Rattle.bits.proofs.Over.{over-over}
 use Rattle.bits.specs.declared.Found.the-variants.{At}
 
@@ -134,11 +135,15 @@ module _ (l : List Bool) (from to i j : ℕ) (e : i ≡ suc j) (f : from < i) (h
       let m : from + length (slice from j l) ≡ j = rw (length-slice from j l (omega arith)) (omega arith) in
       rw (slice-split from j to l (omega arith) (omega arith) t, cut, z, strip-at (slice from j l) (slice i to l) s, m) refl
 
--- ---- fill, 32 bits at a time
+-- ---- fill, 56 bits at a time
 
-pub fill-start : bitsN 1 1 ≡ true ∷ []
+-- the 1 and the 0s that are put with it
+pub fill-start : (m : ℕ) → bitsN (suc m) (2 ^ m) ≡ true ∷ replicate m false
 unfolding bitsN testBit
-fill-start = refl
+fill-start m =
+    let one : 2 ^ m / 2 ^ m ≡ 1 = div-self (pow-pos m) in
+    let zeros : bitsN m (2 ^ m) ≡ bitsN m 0 = ap (bitsN m) (sym (one-mul (2 ^ m)) ∙ sym (add-zero (1 * 2 ^ m))) ∙ bitsN-high m 1 0 in
+    rw (one, zeros, bitsN-zero m) refl
 
 pub clear-more : (from i w : ℕ) (b : List Bool) → from ≤ i → i + w ≤ length b
     → over i (bitsN w 0) (over from (replicate (i - from) false) b) ≡ over from (replicate (i + w - from) false) b
@@ -152,11 +157,17 @@ clear-more from i w b h l =
     ∙ over-over from f (replicate w false) b (rw (length-replicate w false) (omega arith))
     ∙ ap (λ (x : List Bool). over from x b) (replicate-append-replicate (i - from) w false ∙ ap (λ (n : ℕ). replicate n false) m))
 
--- the 1 and the 0s
-pub fill-end : (at to : ℕ) (b : List Bool) → at < to → to ≤ length b
-    → over (at + 1) (replicate (to - (at + 1)) false) (over at (bitsN 1 1) b) ≡ over at (fillBits (to - at)) b
+-- and the 0s after them
+pub fill-end : (at to w m : ℕ) (b : List Bool) → w ≡ suc m → at + w ≤ to → to ≤ length b
+    → over (at + w) (replicate (to - (at + w)) false) (over at (bitsN w (2 ^ m)) b) ≡ over at (fillBits (to - at)) b
 unfolding fillBits
-fill-end at to b h l =
-    let n = to - (at + 1) in
-    let e : to - at ≡ suc n = omega arith in
-    rw (e, fill-start) (over-over at (true ∷ []) (replicate n false) b (rw (length-replicate n false) (omega arith)))
+fill-end at to w m b ew h l =
+    let n = to - (at + w) in
+    let e : to - at ≡ suc (m + n) = omega arith in
+    let a = true ∷ replicate m false in
+    let la : length a ≡ w = ap suc (length-replicate m false) ∙ sym ew in
+    let start : bitsN w (2 ^ m) ≡ a = ap (λ (k : ℕ). bitsN k (2 ^ m)) ew ∙ fill-start m in
+    rw (e, start)
+    (ap (λ (k : ℕ). over (at + k) (replicate n false) (over at a b)) (sym la)
+    ∙ over-over at a (replicate n false) b (rw (length-replicate n false) (omega arith))
+    ∙ ap (λ (x : List Bool). over at (true ∷ x) b) (replicate-append-replicate m n false))

@@ -2,16 +2,17 @@
 use mathlib.Core.Path.{_≡_, refl, sym, ap, ap₂, _∙_}
 use mathlib.Core.Bool.{Bool, true, false}
 use mathlib.Core.List.{List, [], _∷_, _++_}
-use Prim.Native.Nat.{ℕ, zero, suc, _+_, _*_, _/_, _%_, _^_, _≤_, _<_}
-use native.Mathlib.Nat.{suc-add, zero-add, add-assoc, mul-assoc, add-mul, pow-suc, mod-eq-of-lt, one-mul, lt-of-lt-of-le, mul-add-div-right, mul-add-mod-self-right, mod-one, add-comm, mul-comm, min-le-left, zero-div}
+use Prim.Native.Nat.{ℕ, zero, suc, _+_, _-_, _*_, _/_, _%_, _^_, _≤_, _<_}
+use native.Mathlib.Nat.{suc-add, zero-add, add-assoc, mul-assoc, add-mul, pow-suc, mod-eq-of-lt, one-mul, lt-of-lt-of-le, mul-add-div-right, mul-add-mod-self-right, mod-one, add-comm, mul-comm, min-le-left, zero-div, zero-mul, mod-lt}
 use native.Mathlib.Numerals.{one-add}
 use native.Mathlib.Omega.{arith}
 use lib.Dec.{eqb}
 use borrow.Author.Tests.{eqb-true, eqb-false}
 use lib.ListN.{length, take, drop, replicate, length-append, length-take, length-drop, take-append-drop}
-use lib.Arith.{digits-lt}
-use lib.Seq.{take-take, take-nil}
-use lib.Pow.{shl-exact, pow-pos, pow-add, pow-mono, split, high, low, mod-pow-add, shr-shr}
+use lib.Arith.{digits-lt, lt-one}
+use lib.Bits.{bitAnd, bitOr, and-mask, or-shifted}
+use lib.Seq.{take-take, take-nil, take-add, drop-drop}
+use lib.Pow.{shl-exact, pow-pos, pow-add, pow-mono, split, high, low, mod-pow-add, shr-shr, shr-lt}
 use Rattle.bits.specs.Bits.{bit, testBit, num, bitsN}
 
 zero-mul-add : (m n : ℕ) → 0 * m + n ≡ n
@@ -155,3 +156,62 @@ bitsN-zero (suc w) = rw (zero-div (2 ^ w), bitsN-zero w) refl
 -- `(1 << w) - 1`, at 64 bits
 pub ones-of : (w : ℕ) → w < 64 → 1 * 2 ^ w % 2 ^ 64 ≡ 2 ^ w
 ones-of w h = shl-exact 1 w 64 (omega arith) (omega arith) ∙ one-mul (2 ^ w)
+
+-- the bits from `at` on, in two parts
+pub num-parts : (b : List Bool) (at j k : ℕ) → at + (j + k) ≤ length b
+    → num (take (j + k) (drop at b)) ≡ num (take j (drop at b)) * 2 ^ k + num (take k (drop (at + j) b))
+num-parts b at j k h =
+    let l : length (take k (drop (at + j) b)) ≡ k = rw (length-take k (drop (at + j) b), length-drop (at + j) b) (omega arith) in
+    rw (take-add j k (drop at b), drop-drop j at b, num-append (take j (drop at b)) (take k (drop (at + j) b)), l) refl
+
+-- a field, from the k bits at its end and those before them
+pub few-code : (b : List Bool) (at w k hi lo : ℕ) → k ≤ w → w ≤ 56 → at + w ≤ length b → hi ≡ num (take (w - k) (drop at b))
+    → lo ≡ num (take k (drop (at + (w - k)) b)) → bitOr (hi * 2 ^ k % 2 ^ 64) lo ≡ num (take w (drop at b))
+few-code b at w k hi lo h n l eh el =
+    let e : w ≡ w - k + k = omega arith in
+    let small : hi < 2 ^ (w - k) = rw eh (num-take-lt (w - k) (drop at b)) in
+    let low : lo < 2 ^ k = rw el (num-take-lt k (drop (at + (w - k)) b)) in
+    rw (shl-exact {a = hi} (w - k) k 64 small (omega arith), or-shifted hi k lo low, eh, el)
+    (sym (ap (λ (x : ℕ). num (take x (drop at b))) e ∙ num-parts b at (w - k) k (omega arith)))
+
+-- ---- the w bits of x that a bits follow: what the code makes of them, and of x with v for them
+
+-- `a & 63`
+low-six : (a : ℕ) → a < 64 → bitAnd a 63 ≡ a
+low-six a h = and-mask a 6 ∙ mod-eq-of-lt h
+
+shr-six : (x a w : ℕ) → a + w ≤ 64 → x / 2 ^ bitAnd a 63 % 2 ^ w ≡ x / 2 ^ a % 2 ^ w
+shr-six x a zero h = mod-one _ ∙ sym (mod-one _)
+shr-six x a (suc w) h = rw (low-six a (omega arith)) refl
+
+shl-six : (v a w : ℕ) → v < 2 ^ w → a + w ≤ 64 → v * 2 ^ bitAnd a 63 % 2 ^ 64 ≡ v * 2 ^ a
+shl-six v a zero h l = rw (lt-one h, zero-mul (2 ^ bitAnd a 63), zero-mul (2 ^ a)) refl
+shl-six v a (suc w) h l = rw (low-six a (omega arith)) (shl-exact (suc w) a 64 h (omega arith))
+
+pub cut-code : (x a w : ℕ) → a + w ≤ 64 → w ≤ 56 → bitAnd (x / 2 ^ bitAnd a 63) (1 * 2 ^ w % 2 ^ 64 - 1) ≡ x / 2 ^ a % 2 ^ w
+cut-code x a w h l = rw (ones-of w (omega arith), and-mask (x / 2 ^ bitAnd a 63) w) (shr-six x a w h)
+
+pub cut-split : (x a w : ℕ) → x ≡ x / 2 ^ (w + a) * 2 ^ (w + a) + (x / 2 ^ a % 2 ^ w * 2 ^ a + x % 2 ^ a)
+cut-split x a w = sym (split x (w + a)) ∙ ap (λ (y : ℕ). x / 2 ^ (w + a) * 2 ^ (w + a) + y) (mod-pow-add x w a)
+
+pub pasted-lt : (n x a w v : ℕ) → x < 2 ^ n → w + a ≤ n → v < 2 ^ w → x / 2 ^ (w + a) * 2 ^ (w + a) + (v * 2 ^ a + x % 2 ^ a) < 2 ^ n
+pasted-lt n x a w v hx l hv =
+    let e : n - (w + a) + (w + a) ≡ n = omega arith in
+    let inner : v * 2 ^ a + x % 2 ^ a < 2 ^ (w + a) = rw (pow-add 2 w a) (digits-lt hv (mod-lt x (pow-pos a))) in
+    let outer : x / 2 ^ (w + a) < 2 ^ (n - (w + a)) = shr-lt (n - (w + a)) (w + a) (rw e hx) in
+    let all : 2 ^ n ≡ 2 ^ (n - (w + a)) * 2 ^ (w + a) = ap (λ (k : ℕ). 2 ^ k) (sym e) ∙ pow-add 2 (n - (w + a)) (w + a) in
+    rw all (digits-lt outer inner)
+
+module _ (x a w v : ℕ) (h : a + w ≤ 64) (hv : v < 2 ^ w) (hx : x < 2 ^ 64) where
+  old-lt : x / 2 ^ a % 2 ^ w < 2 ^ w
+  old-lt = mod-lt (x / 2 ^ a) (pow-pos w)
+
+  pub paste-room : x / 2 ^ a % 2 ^ w * 2 ^ bitAnd a 63 % 2 ^ 64 ≤ x
+  paste-room = rw (shl-six (x / 2 ^ a % 2 ^ w) a w old-lt h) (omega (arith, cut-split x a w))
+
+  pub paste-code : x - x / 2 ^ a % 2 ^ w * 2 ^ bitAnd a 63 % 2 ^ 64 + v * 2 ^ bitAnd a 63 % 2 ^ 64
+      ≡ x / 2 ^ (w + a) * 2 ^ (w + a) + (v * 2 ^ a + x % 2 ^ a)
+  paste-code = rw (shl-six (x / 2 ^ a % 2 ^ w) a w old-lt h, shl-six v a w hv h) (omega (arith, cut-split x a w))
+
+  pub paste-fits : x - x / 2 ^ a % 2 ^ w * 2 ^ bitAnd a 63 % 2 ^ 64 + v * 2 ^ bitAnd a 63 % 2 ^ 64 < 2 ^ 64
+  paste-fits = rw paste-code (pasted-lt 64 x a w v hx (omega arith) hv)

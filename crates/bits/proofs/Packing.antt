@@ -1,18 +1,21 @@
 -- The laws of a layout: packing, reading back, and the loop that puts the parts. Assumes nothing.
 use mathlib.Core.Path.{_≡_, refl, sym, ap, ap₂, _∙_}
 use mathlib.Core.Bool.{Bool}
-use mathlib.Core.List.{List, [], _∷_, _++_, append-assoc}
-use Prim.Native.Nat.{ℕ, suc, _+_, _^_, _≤_, _<_}
+use mathlib.Core.List.{List, [], _∷_, _++_, append-assoc, append-nil}
+use Prim.Native.Nat.{ℕ, suc, _+_, _*_, _%_, _^_, _≤_, _<_}
 use native.Mathlib.Nat.{zero-add}
 use native.Mathlib.Numerals.{add-one}
 use native.Mathlib.Omega.{arith}
+use lib.Arith.{digits-lt}
+use lib.Bits.{bitOr, or-shifted}
+use lib.Pow.{high, pow-add, shl-exact}
 use lib.ListN.{getD, length, take, drop, length-append, length-take, length-drop}
 use lib.Seq.{take-at, drop-at, drop-drop, drop-cons, drop-length, take-add, take-take}
 use Rattle.bits.specs.Bits.{num, bitsN, bitsOf, over, field, Inside}
 use Rattle.bits.specs.Layout.{Part, part, pack, total, widths, partsWith, partsIn, AllFit, AllNarrow}
-use Rattle.bits.proofs.Numbers.{length-bitsN, num-bitsN, bitsN-is, num-take-lt, drop-of-take}
+use Rattle.bits.proofs.Numbers.{length-bitsN, num-bitsN, bitsN-is, bitsN-add, bitsN-high, num-take-lt, drop-of-take}
 use Rattle.bits.proofs.Bytes.{length-bitsOf}
-use Rattle.bits.proofs.Over.{over-nil, over-over, over-read}
+use Rattle.bits.proofs.Over.{over-over, over-read}
 
 pub length-pack : (ps : List Part) → length (pack ps) ≡ total ps
 length-pack [] = refl
@@ -70,56 +73,86 @@ pack-read at (w ∷ ws) b h =
 
 -- ---- the loop that puts the parts
 
--- what is still to be put, from bit `to` on, so that the whole comes out as `goal`
-pub record ToPut (ws vs : List ℕ) (goal : List Bool) (out : List ℕ) (to : ℕ) : Type 0 where
+-- what is still to be put, from bit `to` on, so that the whole comes out as `goal`: the n bits of acc, which wait, and the parts after them
+pub record ToPut (ws vs : List ℕ) (goal : List Bool) (out : List ℕ) (to n acc : ℕ) : Type 0 where
   pub paired : length ws ≡ length vs
   pub narrow : AllNarrow ws
   pub fit : AllFit (partsWith ws vs)
-  pub room : Inside (length out) to (to + total (partsWith ws vs))
-  pub bits : over to (pack (partsWith ws vs)) (bitsOf out) ≡ goal
+  pub short : n ≤ 56
+  pub held : acc < 2 ^ n
+  pub room : Inside (length out) to (to + (n + total (partsWith ws vs)))
+  pub bits : over to (bitsN n acc ++ pack (partsWith ws vs)) (bitsOf out) ≡ goal
 
--- what `put` asks for the next part
-pub record Next (out : List ℕ) (to w v : ℕ) : Type 0 where
-  pub room : Inside (length out) to (to + w)
-  pub narrow : w ≤ 56
-  pub fits : v < 2 ^ w
+-- the bits that wait are put
+put-waiting : (ps : List Part) (out out′ : List ℕ) (to n acc : ℕ) → to + (n + total ps) ≤ 8 * length out → bitsOf out′ ≡ over to (bitsN n acc) (bitsOf out)
+    → over (to + n) (pack ps) (bitsOf out′) ≡ over to (bitsN n acc ++ pack ps) (bitsOf out)
+put-waiting ps out out′ to n acc h b =
+    let l : length (bitsN n acc) ≡ n = length-bitsN n acc in
+    rw b
+    (ap (λ (k : ℕ). over (to + k) (pack ps) (over to (bitsN n acc) (bitsOf out))) (sym l)
+    ∙ over-over to (bitsN n acc) (pack ps) (bitsOf out) (omega (arith, length-pack ps, length-bitsOf out)))
 
-module _ {w v : ℕ} {ws vs out : List ℕ} {goal : List Bool} {to : ℕ} (s : ToPut (w ∷ ws) (v ∷ vs) goal out to) where
-  pub put-asks : Next out to w v
-  put-asks = record { room = omega arith; narrow = s .narrow .0; fits = s .fit .0 }
-
-  pub put-done : (out′ : List ℕ) → length out′ ≡ length out → bitsOf out′ ≡ over to (bitsN w v) (bitsOf out) → ToPut ws vs goal out′ (to + w)
-  put-done out′ l b =
-      let n : length (bitsN w v) ≡ w = length-bitsN w v in
+module _ {w v : ℕ} {ws vs out : List ℕ} {goal : List Bool} {to n acc : ℕ} (s : ToPut (w ∷ ws) (v ∷ vs) goal out to n acc) where
+  -- a part that fits waits with them
+  join-next : n + w ≤ 56 → ToPut ws vs goal out to (n + w) (bitOr (acc * 2 ^ w % 2 ^ 64) v)
+  join-next h =
+      let lt = s .fit .0 in
+      let code : bitOr (acc * 2 ^ w % 2 ^ 64) v ≡ acc * 2 ^ w + v =
+      rw (shl-exact {a = acc} n w 64 (s .held) (omega arith), or-shifted acc w v lt) refl in
+      let two : bitsN (n + w) (acc * 2 ^ w + v) ≡ bitsN n acc ++ bitsN w v =
+      rw (bitsN-add n w (acc * 2 ^ w + v), high acc w lt, bitsN-high w acc v) refl in
       record {
         paired = omega arith;
         narrow = s .narrow .1;
         fit = s .fit .1;
+        short = h;
+        held = rw (code, pow-add 2 n w) (digits-lt (s .held) lt);
         room = omega arith;
-        bits =
-            rw b
-            (ap (λ (k : ℕ). over (to + k) (pack (partsWith ws vs)) (over to (bitsN w v) (bitsOf out))) (sym n)
-            ∙ over-over to (bitsN w v) (pack (partsWith ws vs)) (bitsOf out) (omega (arith, length-pack (partsWith ws vs), length-bitsOf out))
-            ∙ s .bits);
+        bits = rw (code, two, append-assoc (bitsN n acc) (bitsN w v) (pack (partsWith ws vs))) (s .bits);
+      }
+
+  -- one that does not waits after they are put
+  wait-next : (out′ : List ℕ) → length out′ ≡ length out → bitsOf out′ ≡ over to (bitsN n acc) (bitsOf out) → ToPut ws vs goal out′ (to + n) w v
+  wait-next out′ l b =
+      record {
+        paired = omega arith;
+        narrow = s .narrow .1;
+        fit = s .fit .1;
+        short = s .narrow .0;
+        held = s .fit .0;
+        room = omega arith;
+        bits = put-waiting (part w v ∷ partsWith ws vs) out out′ to n acc (omega arith) b ∙ s .bits;
       }
 
 -- the same at place i of the two lists
-abbrev pub LeftAt : List ℕ → List ℕ → List Bool → List ℕ → ℕ → ℕ → Type 0
-LeftAt ws vs goal out to i = ToPut (drop i ws) (drop i vs) goal out to
+abbrev pub LeftAt : List ℕ → List ℕ → List Bool → List ℕ → ℕ → ℕ → ℕ → ℕ → Type 0
+LeftAt ws vs goal out to n acc i = ToPut (drop i ws) (drop i vs) goal out to n acc
 
-module _ (ws vs : List ℕ) (i : ℕ) {goal : List Bool} {out : List ℕ} {to : ℕ} (h : i < length ws) (s : LeftAt ws vs goal out to i) where
-  both : ToPut (getD ws i 0 ∷ drop (suc i) ws) (getD vs i 0 ∷ drop (suc i) vs) goal out to
+pub none-put : (ws vs : List ℕ) (out : List ℕ) (at : ℕ) → length ws ≡ length vs → AllNarrow ws → AllFit (partsWith ws vs)
+    → Inside (length out) at (at + total (partsWith ws vs)) → LeftAt ws vs (over at (pack (partsWith ws vs)) (bitsOf out)) out at 0 0 0
+unfolding bitsN
+none-put ws vs out at p n f r =
+    record { paired = p; narrow = n; fit = f; short = omega arith; held = omega arith; room = omega arith; bits = refl }
+
+module _ (ws vs : List ℕ) (i : ℕ) {goal : List Bool} {out : List ℕ} {to n acc : ℕ} (h : i < length ws) (s : LeftAt ws vs goal out to n acc i) where
+  both : ToPut (getD ws i 0 ∷ drop (suc i) ws) (getD vs i 0 ∷ drop (suc i) vs) goal out to n acc
   both =
       let l = s .paired in
       rw (drop-cons vs i 0 (omega (arith, length-drop i ws, length-drop i vs))) at (rw (drop-cons ws i 0 h) at s)
 
-  pub turn-asks : Next out to (getD ws i 0) (getD vs i 0)
-  turn-asks = put-asks both
+  pub next-narrow : getD ws i 0 ≤ 56
+  next-narrow = both .narrow .0
 
-  pub turn-done : (out′ : List ℕ) → length out′ ≡ length out → bitsOf out′ ≡ over to (bitsN (getD ws i 0) (getD vs i 0)) (bitsOf out)
-      → LeftAt ws vs goal out′ (to + getD ws i 0) (i + 1)
-  turn-done out′ l b = rw (add-one i) (put-done both out′ l b)
+  pub joined-next : n + getD ws i 0 ≤ 56 → LeftAt ws vs goal out to (n + getD ws i 0) (bitOr (acc * 2 ^ getD ws i 0 % 2 ^ 64) (getD vs i 0)) (i + 1)
+  joined-next k = rw (add-one i) (join-next both k)
 
-pub all-put : (ws vs : List ℕ) {goal : List Bool} {out : List ℕ} {to : ℕ} → LeftAt ws vs goal out to (length ws) → bitsOf out ≡ goal
-all-put ws vs {goal} {out} {to} s =
-    sym (over-nil to (bitsOf out)) ∙ ap (λ (l : List ℕ). over to (pack (partsWith l (drop (length ws) vs))) (bitsOf out)) (sym (drop-length ws)) ∙ s .bits
+  pub waits-next : (out′ : List ℕ) → length out′ ≡ length out → bitsOf out′ ≡ over to (bitsN n acc) (bitsOf out)
+      → LeftAt ws vs goal out′ (to + n) (getD ws i 0) (getD vs i 0) (i + 1)
+  waits-next out′ l b = rw (add-one i) (wait-next both out′ l b)
+
+pub all-put : (ws vs : List ℕ) {goal : List Bool} {out : List ℕ} {to n acc : ℕ} → LeftAt ws vs goal out to n acc (length ws)
+    → over to (bitsN n acc) (bitsOf out) ≡ goal
+all-put ws vs {goal} {out} {to} {n} {acc} s =
+    ap (λ (x : List Bool). over to x (bitsOf out))
+    (sym (append-nil (bitsN n acc)) ∙ ap (λ (l : List ℕ). bitsN n acc ++ pack (partsWith l (drop (length ws) vs))) (sym (drop-length ws)))
+    ∙ s .bits

@@ -1,17 +1,16 @@
--- The loop that stores a number into bytes, last byte first; and what `put` makes of it. Assumes nothing.
+-- The loop that stores a number into bytes, last byte first; and what `put` makes of it, or of one byte after another. Assumes nothing.
 use mathlib.Core.Path.{_≡_, refl, sym, ap, ap₂, _∙_, subst}
 use mathlib.Core.Bool.{Bool}
 use mathlib.Core.List.{List, _∷_, _++_, append-assoc}
 use Prim.Native.Nat.{ℕ, suc, _+_, _-_, _*_, _/_, _%_, _^_, _≤_, _<_}
-use native.Mathlib.Nat.{add-comm, sub-self, le-refl, div-one, mod-eq-of-lt, lt-of-le-of-lt, div-mul-le-self, mod-lt}
+use native.Mathlib.Nat.{add-comm, sub-self, le-refl, div-one}
 use native.Mathlib.Omega.{arith}
-use lib.Arith.{digits-lt}
-use lib.Pow.{pow-pos, pow-add, shr-shr, shl-exact}
-use lib.Bits.{bitOr, bitAnd, and-mask, or-shifted}
+use lib.Pow.{shr-shr}
+use lib.Bits.{bitAnd, and-mask}
 use lib.ListN.{length, take, drop, set, length-set, length-append, length-drop, take-append-drop}
 use lib.Seq.{take-set-le, take-take, set-split, drop-at, length-take-le, slice}
 use Rattle.bits.specs.Bits.{over, num, bitsN, bitsOf}
-use Rattle.bits.proofs.Numbers.{length-bitsN, num-append, bitsN-add, bitsN-mod, bitsN-is, num-shr, num-low, num-bitsN, ones-of}
+use Rattle.bits.proofs.Numbers.{length-bitsN, num-append, bitsN-add, bitsN-mod, bitsN-is, num-shr, num-low, num-bitsN}
 use Rattle.bits.proofs.Bytes.{bitsOf-take, bitsOf-drop, bitsOf-append, length-bitsOf, length-bitsOf-slice, bitsOf-slice}
 use Rattle.bits.proofs.Over.{length-over, over-part}
 
@@ -99,25 +98,7 @@ num-over m k w r v e h =
     sym-len : length m - (k + w) ≡ r
     sym-len = omega arith
 
--- what the code makes of the number acc of those bytes
-module _ (acc w r v : ℕ) (h : v < 2 ^ w) (b : w + r < 64) (a : acc < 2 ^ 64) where
-  pub put-code : bitOr (acc / 2 ^ (w + r) * 2 ^ (w + r) % 2 ^ 64) (bitOr (v * 2 ^ r % 2 ^ 64) (bitAnd acc (1 * 2 ^ r % 2 ^ 64 - 1)))
-      ≡ acc / 2 ^ (w + r) * 2 ^ (w + r) + (v * 2 ^ r + acc % 2 ^ r)
-  put-code =
-      let low : acc % 2 ^ r < 2 ^ r = mod-lt acc (pow-pos r) in
-      let inner : v * 2 ^ r + acc % 2 ^ r < 2 ^ (w + r) = rw (pow-add 2 w r) (digits-lt h low) in
-      let e : acc / 2 ^ (w + r) * 2 ^ (w + r) % 2 ^ 64 ≡ acc / 2 ^ (w + r) * 2 ^ (w + r) =
-      mod-eq-of-lt (lt-of-le-of-lt (div-mul-le-self acc (2 ^ (w + r))) a) in
-      rw (
-        e,
-        ones-of r (omega arith),
-        and-mask acc r,
-        shl-exact w r 64 h (omega arith),
-        or-shifted v r (acc % 2 ^ r) low,
-        or-shifted (acc / 2 ^ (w + r)) (w + r) (v * 2 ^ r + acc % 2 ^ r) inner,
-      ) refl
-
--- and what it says of all the bits
+-- what it says of all the bits
 pub put-field : (s : List ℕ) (at w v f t r : ℕ) → 8 * f ≤ at → at + w ≤ 8 * t → t ≤ length s → f ≤ t → r ≡ 8 * t - (at + w) → v < 2 ^ w
     → over (8 * f) (bitsN (8 * (t - f)) (num (bitsOf (slice f t s)) / 2 ^ (w + r) * 2 ^ (w + r) + (v * 2 ^ r + num (bitsOf (slice f t s)) % 2 ^ r))) (bitsOf s)
     ≡ over at (bitsN w v) (bitsOf s)

@@ -1,7 +1,7 @@
 // Bit strings over lent bytes: eight bits to a byte, the first bit highest.
 ghost use mathlib.Core.Path.{_≡_};
 ghost use mathlib.Core.Bool.{false};
-ghost use Prim.Native.Nat.{_+_, _-_, _*_, _^_, _≤_, _<_, min};
+ghost use Prim.Native.Nat.{_+_, _-_, _*_, _/_, _%_, _^_, _≤_, _<_, min};
 ghost use lib.ListN.{length, take, drop, replicate};
 ghost use lib.Seq.{slice};
 ghost use Rattle.bits.specs.Bits.{num, bitsN, bitsOf, over, Inside, Got};
@@ -32,10 +32,12 @@ fn load(s: &[u8], first: usize, last: usize) -> u64
     ensures { λ r. ⌜ r ≡ num (bitsOf (slice first last (now (s .entry)))) ⌝ }
 {
     let mut acc: u64 = 0;
-    let mut i = first;
-    while i < last {
-        acc = (acc << 8) | wide(s[i]);
-        i += 1;
+    let mut i = last;
+    let mut low: usize = 0;
+    while first < i {
+        i -= 1;
+        acc = acc | (wide(s[i]) << low);
+        low += 8;
     }
     acc
 }
@@ -54,15 +56,74 @@ fn store(out: &mut [u8], first: usize, last: usize, v: u64)
     }
 }
 
+// The `w` bits of `whole` that `after` bits follow.
+fn cut(whole: u64, after: usize, w: usize) -> u64
+    requires { ⌜ (after + w ≤ 64) × (w ≤ 56) ⌝ }
+    ensures { λ r. ⌜ r ≡ whole / 2 ^ after % 2 ^ w ⌝ }
+{
+    (whole >> (after & 63)) & ((1 << w) - 1)
+}
+
+// `whole` with `v` for these bits.
+fn pasted(whole: u64, after: usize, w: usize, v: u64) -> u64
+    requires { ⌜ (after + w ≤ 64) × (w ≤ 56) × (v < 2 ^ w) ⌝ }
+    ensures { λ r. ⌜ r ≡ whole / 2 ^ (w + after) * 2 ^ (w + after) + (v * 2 ^ after + whole % 2 ^ after) ⌝ }
+{
+    whole - (cut(whole, after, w) << (after & 63)) + (v << (after & 63))
+}
+
+// The `k` bits that end with bit `last`, all of one byte.
+fn get_in_byte(s: &[u8], last: usize, k: usize) -> u64
+    requires { ⌜ (last < 8 * length (now s)) × (k ≤ last % 8 + 1) ⌝ }
+    ensures { λ r. ⌜ Got (bitsOf (now (s .entry))) (last + 1 - k) k r ⌝ }
+{
+    cut(wide(s[last >> 3]), 7 - (last & 7), k)
+}
+
+// How many of the `w` bits that end with bit `last` are of its byte.
+fn ending(last: usize, w: usize) -> usize
+    ensures { λ r. ⌜ r ≡ min w (last % 8 + 1) ⌝ }
+{
+    least(w, (last & 7) + 1)
+}
+
+// `get` byte by byte: for fewer than eight bytes.
+fn get_few(s: &[u8], at: usize, w: usize) -> u64
+    requires { ⌜ Inside (length (now s)) at (at + w) × (w ≤ 56) ⌝ }
+    ensures { λ r. ⌜ Got (bitsOf (now (s .entry))) at w r ⌝ }
+{
+    if w == 0 {
+        return 0;
+    }
+    let last = at + w - 1;
+    let k = ending(last, w);
+    (get_few(s, at, w - k) << k) | get_in_byte(s, last, k)
+}
+
+// Puts the `w` bits of `v` at bit `at`, through the bytes from `first` up to `last`, eight at most, that the field stands in.
+fn put_through(out: &mut [u8], first: usize, last: usize, at: usize, w: usize, v: u64)
+    requires { ⌜ Inside (length (now out)) at (at + w) × (8 * first ≤ at) × (at + w ≤ 8 * last) × (last ≤ length (now out)) × (last ≤ first + 8) × (w ≤ 56) × (v < 2 ^ w) ⌝ }
+    ensures { λ r. ⌜ bitsOf (now (out .exit)) ≡ over at (bitsN w v) (bitsOf (now (out .entry))) ⌝ }
+{
+    let whole = load(out, first, last);
+    store(
+        out,
+        first,
+        last,
+        pasted(whole, (last << 3) - (at + w), w, v),
+    );
+}
+
 // The `w` bits from bit `at` on, as a number.
 pub fn get(s: &[u8], at: usize, w: usize) -> u64
     requires { ⌜ Inside (length (now s)) at (at + w) × (w ≤ 56) ⌝ }
     ensures { λ r. ⌜ Got (bitsOf (now (s .entry))) at w r ⌝ }
 {
-    let end = at + w;
-    let last = (end + 7) >> 3;
-    let acc = load(s, at >> 3, last);
-    (acc >> ((last << 3) - end)) & ((1 << w) - 1)
+    if s.len() < 8 {
+        return get_few(s, at, w);
+    }
+    let first = least(at >> 3, s.len() - 8);
+    cut(load(s, first, first + 8), (first << 3) + 64 - (at + w), w)
 }
 
 // The same, of eight bits at most.
@@ -86,17 +147,16 @@ pub fn put(out: &mut [u8], at: usize, w: usize, v: u64)
     requires { ⌜ Inside (length (now out)) at (at + w) × (w ≤ 56) × (v < 2 ^ w) ⌝ }
     ensures { λ r. ⌜ bitsOf (now (out .exit)) ≡ over at (bitsN w v) (bitsOf (now (out .entry))) ⌝ }
 {
-    let end = at + w;
-    let first = at >> 3;
-    let last = (end + 7) >> 3;
-    let r = (last << 3) - end;
-    let acc = load(out, first, last);
-    let high = (acc >> (w + r)) << (w + r);
-    let low = acc & ((1 << r) - 1);
-    store(out, first, last, high | ((v << r) | low));
+    if out.len() < 8 {
+        let last = out.len();
+        put_through(out, 0, last, at, w, v);
+        return;
+    }
+    let first = least(at >> 3, out.len() - 8);
+    put_through(out, first, first + 8, at, w, v);
 }
 
-// Puts each value into its width of bits, side by side from bit `at` on.
+// Puts each value into its width of bits, side by side from bit `at` on: `n` bits, the number `acc`, wait to be put together.
 pub fn put_all(out: &mut [u8], at: usize, widths: &[u8], values: &[u64])
     requires { ⌜ (length (now widths) ≡ length (now values)) × AllNarrow (now widths)
         × AllFit (partsWith (now widths) (now values))
@@ -104,36 +164,47 @@ pub fn put_all(out: &mut [u8], at: usize, widths: &[u8], values: &[u64])
     ensures { λ r. ⌜ bitsOf (now (out .exit)) ≡ over at (pack (partsWith (now (widths .entry)) (now (values .entry)))) (bitsOf (now (out .entry))) ⌝ }
 {
     let mut to = at;
+    let mut acc: u64 = 0;
+    let mut n: usize = 0;
     let mut i: usize = 0;
     while i < widths.len() {
         let w = index(widths[i]);
-        put(out, to, w, values[i]);
-        to += w;
+        let v = values[i];
+        if 56 < n + w {
+            put(out, to, n, acc);
+            to += n;
+            acc = v;
+            n = w;
+        } else {
+            acc = (acc << w) | v;
+            n += w;
+        }
         i += 1;
     }
+    put(out, to, n, acc);
 }
 
-// Copies `n` bits of `src` from bit `from` on to `dst` at bit `to`, 32 at a time.
+// Copies `n` bits of `src` from bit `from` on to `dst` at bit `to`, 56 at a time.
 pub fn copy(src: &[u8], from: usize, dst: &mut [u8], to: usize, n: usize)
     requires { ⌜ Inside (length (now src)) from (from + n) × Inside (length (now dst)) to (to + n) ⌝ }
     ensures { λ r. ⌜ bitsOf (now (dst .exit)) ≡ over to (take n (drop from (bitsOf (now (src .entry))))) (bitsOf (now (dst .entry))) ⌝ }
 {
     let mut i = 0;
     while i < n {
-        let w = least(n - i, 32);
+        let w = least(n - i, 56);
         put(dst, to + i, w, get(src, from + i, w));
         i += w;
     }
 }
 
-// 0s from bit `from` up to `to`, 32 at a time.
+// 0s from bit `from` up to `to`, 56 at a time.
 pub fn clear(out: &mut [u8], from: usize, to: usize)
     requires { ⌜ Inside (length (now out)) from to ⌝ }
     ensures { λ r. ⌜ bitsOf (now (out .exit)) ≡ over from (replicate (to - from) false) (bitsOf (now (out .entry))) ⌝ }
 {
     let mut i = from;
     while i < to {
-        let w = least(to - i, 32);
+        let w = least(to - i, 56);
         put(out, i, w, 0);
         i += w;
     }
@@ -145,8 +216,9 @@ pub fn fill(out: &mut [u8], from: usize, to: usize)
     ensures { λ r. ⌜ bitsOf (now (out .exit)) ≡ over from (fillBits (to - from)) (bitsOf (now (out .entry))) ⌝ }
 {
     if from < to {
-        put(out, from, 1, 1);
-        clear(out, from + 1, to);
+        let w = least(to - from, 56);
+        put(out, from, w, 1 << (w - 1));
+        clear(out, from + w, to);
     }
 }
 
@@ -164,7 +236,7 @@ pub fn last_one(s: &[u8], from: usize, to: usize) -> Found
     let mut i = to;
     while from < i {
         i -= 1;
-        if get(s, i, 1) == 1 {
+        if get_in_byte(s, i, 1) == 1 {
             return Found::At(i);
         }
     }

@@ -10,12 +10,14 @@ use crate::sync::Sync;
 use bits::Found;
 
 // An address element: its type, and the SSI, 0 where it is absent.
+#[repr(C)]
 pub struct Address {
     pub kind: u8,
     pub ssi: u32,
 }
 
 // What a message's header says of it: addresses, MNI, message type, and the dependent elements as one run of bits with its width.
+#[repr(C)]
 pub struct Fields {
     pub destination: Address,
     pub source: Address,
@@ -27,6 +29,7 @@ pub struct Fields {
 
 // A header that was read; where it was refused, all but the fault is 0. `fragmented` is the flag, `count` the number of SCH/F slots,
 // `first` the DM-SDU's first bit in SCH/H and `bits` the number of its message bits.
+#[repr(C)]
 pub struct Header {
     pub fault: u8,
     pub sync: Sync,
@@ -159,11 +162,14 @@ fn body_rules(fragmented: u8, count: u8, to: u8, from: u8, width: usize, first: 
     0
 }
 
-// What follows SCH/S's part: the faults from 10 on, the fields and the DM-SDU.
+// What follows SCH/S's part: the faults from 10 on, the fields and the DM-SDU. The length is tested so that the compiler, too, knows it.
 fn read_body(sync: Sync, h: &[u8]) -> Header
     requires { ⌜ length (now h) ≡ 16 ⌝ }
     ensures { λ r. ⌜ r ≡ readBody sync (bitsOf (now (h .entry))) ⌝ }
 {
+    if h.len() != SchH::BYTES {
+        return refused(1);
+    }
     let b = body_of(h);
     let fault = body_rules(
         b.fragmented,

@@ -3,6 +3,7 @@ ghost use mathlib.Core.Path.{_≡_};
 ghost use Rattle.blocks.specs.Slots.{dueOf};
 
 // A frame, or the number of the refusal.
+#[repr(C)]
 pub struct Due {
     pub fault: u8,
     pub frame: u8,

@@ -8,6 +8,7 @@ use crate::sizes::SchH;
 use crate::sizes::SchS;
 
 // Its fields, but for the fixed ones. The slot is as coded in 9.3.25: 0 is slot 1.
+#[repr(C)]
 pub struct Sync {
     pub system: u8,
     pub usage: u8,
@@ -74,11 +75,19 @@ pub(crate) fn sync_fault(s: &[u8], h: &[u8]) -> u8
     sync_rules(pad, other, system, pdu, communication, encryption, frame)
 }
 
-// The fields as they stand.
+// The fields as they stand. The length is tested so that the compiler, too, knows it.
 pub(crate) fn sync_of(s: &[u8]) -> Sync
     requires { ⌜ length (now s) ≡ 8 ⌝ }
     ensures { λ r. ⌜ r ≡ syncOf (bitsOf (now (s .entry))) ⌝ }
 {
+    if s.len() != SchS::BYTES {
+        return Sync {
+            system: 0,
+            usage: 0,
+            slot: 0,
+            frame: 0,
+        };
+    }
     Sync {
         system: bits::get8(s, 0, 4),
         usage: bits::get8(s, 10, 2),

@@ -15,6 +15,7 @@ use blocks::sync::Sync;
 mod plan;
 
 // What a build answers: its fault, or the number of continuation blocks.
+#[repr(C)]
 pub struct Built {
     pub fault: u8,
     pub blocks: u8,

@@ -8,7 +8,7 @@ use lib.Dec.{eqb, leb}
 use lib.ListN.{length, take, drop, length-append, length-take, length-drop}
 use lib.Seq.{take-at, drop-at, drop-drop}
 use borrow.Author.Tests.{eq-eqb, leb-true, leb-false}
-use Rattle.bits.specs.Bits.{bitsN, bitsOf, bytesN, over}
+use Rattle.bits.specs.Bits.{bitsN, bitsOf, over}
 use Rattle.bits.specs.Layout.{Part, part, pack, partsWith}
 use Rattle.bits.specs.Runs.{joined}
 use Rattle.bits.proofs.Numbers.{length-bitsN}
@@ -49,6 +49,7 @@ use Rattle.blocks.proofs.FaultLaws.{chain-none}
 use Rattle.build.proofs.RangeLaws.{InRange, in-range}
 use Rattle.build.proofs.BuiltLaws.{header-bits}
 use Rattle.build.proofs.JoinLaws.{built-reads, built-blocks, built-joined}
+use Rattle.store.specs.Store.{halves}
 use Rattle.history.specs.Line.{Line, start, _▸_}
 use Rattle.history.specs.Slots.{Header, Heard, fragmented, unfragmented, frag, end}
 use Rattle.history.specs.History.{join}
@@ -204,7 +205,7 @@ module _ (m : Message) where
   -- The header as it is heard, by whatever build.
   abbrev pub meant : Settings → Header
   meant s =
-      let i = take inside (bits m) in record { raw = bytesN 16 (uncounted flag (k m) (m .fields) i); for-us = for-unit s (m .fields); fields = m .fields; bits = i }
+      let i = take inside (bits m) in record { raw = halves (uncounted flag (k m) (m .fields) i); for-us = for-unit s (m .fields); fields = m .fields; bits = i }
 
   module _ (b : Build m) where
     abbrev fault : ℕ
@@ -261,14 +262,14 @@ module _ (m : Message) where
         sym (take-at x (joined (blockBits (schFs (k m) out))) inside (bits-read (schS out) (schH out) good ∙ ap (λ (r : read.Header). r .bits) header-read))
         ∙ ap (take inside) joined-is
 
-    raw-is : rawOf (schH out) ≡ bytesN 16 (uncounted flag (k m) (m .fields) (take inside (bits m)))
+    raw-is : rawOf (schH out) ≡ halves (uncounted flag (k m) (m .fields) (take inside (bits m)))
     raw-is =
         let f : fragmentedIn (bitsOf (schH out)) ≡ flag = flag-read (schS out) (schH out) good ∙ ap (λ (r : read.Header). r .fragmented) header-read in
         let h : bitsOf (schH out) ≡ headerBlock flag (k m) (b .countdown) (m .fields) (take inside (bits m)) =
         ap (λ (o : List ℕ). bitsOf (schH o)) out-is
         ∙ header-bits (bits m) whole rest
         ∙ ap (λ (n : ℕ). headerBlock (fragmentedFor (m .fields) n) (blocksFor (m .fields) n) (b .countdown) (m .fields) (take (inHeader (headerBits (m .fields)) n) (bits m))) all-bits in
-        ap (bytesN 16) (ap₂ (λ (n : ℕ) (x : List Bool). over (12 + 4 * n) (false ∷ false ∷ []) x) f h ∙ block-uncounted flag (k m) (m .fields) (take inside (bits m)) (b .countdown))
+        ap halves (ap₂ (λ (n : ℕ) (x : List Bool). over (12 + 4 * n) (false ∷ false ∷ []) x) f h ∙ block-uncounted flag (k m) (m .fields) (take inside (bits m)) (b .countdown))
 
     out-length : 24 + 34 * k m ≤ length out
     out-length =

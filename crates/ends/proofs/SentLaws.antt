@@ -8,7 +8,7 @@ use mathlib.Core.Option.{Option, some}
 use lib.Dec.{eqb}
 use borrow.Author.Tests.{eq-eqb, ne-eqb}
 use Rattle.blocks.specs.Slots.{nextFrame}
-use Rattle.store.specs.Store.{same-bytes}
+use Rattle.store.specs.Store.{same-numbers}
 use Rattle.store.proofs.Blocks.{same-self}
 use Rattle.history.specs.Line.{Line, start, _▸_, _⧺_, count}
 use Rattle.history.specs.Slots.{same-place, next, tick, due, Header, Heard, nothing, fragmented, unfragmented, frag, end, Report}
@@ -188,7 +188,7 @@ module _ (hs : History) (h : Header) (more f : ℕ) (p : Place) (w : h .for-us �
   theorem-on-the-way (again {rs} r f′ s t e c) =
       let n : suc f - frames (rs ▸ r) ≡ suc f′ = omega arith in
       answered (known s) r (fragmented h more f′) t e
-      ∙ ap (λ (d : Bool). record { outcome = cond d opened quiet; dropped = not (d && (same-bytes (h .raw) (h .raw) && eqb (suc f - frames (rs ▸ r)) (suc f′))) }) w
+      ∙ ap (λ (d : Bool). record { outcome = cond d opened quiet; dropped = not (d && (same-numbers (h .raw) (h .raw) && eqb (suc f - frames (rs ▸ r)) (suc f′))) }) w
       ∙ ap₂ (λ (x y : Bool). record { outcome = opened; dropped = not (x && y) }) (same-self (h .raw)) (eq-eqb (suc f - frames (rs ▸ r)) (suc f′) n)
       ∙ ap (λ (x : Heard). told (on-the-way x)) (sym e)
   theorem-on-the-way (block {rs} {bs} r b s t e d m) =

@@ -7,12 +7,12 @@ use mathlib.Core.Option.{Option, none, some}
 use lib.Dec.{eqb}
 use Rattle.history.specs.Line.{start, _▸_, _⧺_, Every}
 use Rattle.history.specs.Slots.{Header, Heard, nothing, fragmented, unfragmented, frag, end, Report}
-use Rattle.store.specs.Store.{same-bytes}
+use Rattle.store.specs.Store.{same-numbers}
 use Rattle.store.proofs.Blocks.{same-is}
 use Rattle.history.specs.declared.Place.{Place}
 use Rattle.history.specs.Step.{Near, in-turn, older-near, still-near, nearing, near-after, repeats, is-copy, step, after}
 use Rattle.history.specs.History.{History, InTurn, Unbroken, Brings, NotForUs, Earlier, IsNearest, Copy}
-use Rattle.history.proofs.OpenRun.{and-true, same-bytes-is, turn-true, turn-is, follow, report, left, again-true, again-is}
+use Rattle.history.proofs.OpenRun.{and-true, same-numbers-is, turn-true, turn-is, follow, report, left, again-true, again-is}
 
 abbrev near-shape : Earlier → Near
 near-shape e = record { raw = e .header .raw; again = left (suc (e .countdown)) (e .since) }
@@ -135,7 +135,7 @@ copy-go hs r h f true none k i e = let z : _≡_ {A = ℕ} 0 1 = cc in absurd (o
 copy-go hs r h f true (some n) k (y, o, w) e =
     let e′ : repeats (y .header .raw) (left (suc (y .countdown)) (y .since ▸ r)) h f ≡ true =
     subst (λ (n : Near). is-copy (some (older-near (r .place) n)) h f ≡ true) w e in
-    let b = and-true (same-bytes (y .header .raw) (h .raw)) (eqb (left (suc (y .countdown)) (y .since ▸ r)) (suc f)) e′ in
+    let b = and-true (same-numbers (y .header .raw) (h .raw)) (eqb (left (suc (y .countdown)) (y .since ▸ r)) (suc f)) e′ in
     record {
       earlier = y;
       is-nearest = o;
@@ -151,4 +151,4 @@ pub copy-is : (hs : History) (r : Report) (h : Header) (f : ℕ) → Copy hs r h
 copy-is hs r h f c =
     let y = c .earlier in
     ap₂ (λ (t : Bool) (m : Option Near). is-copy (still-near t (r .place) m) h f) (turn-is hs (r .place) (c .unbroken)) (near-found hs y (c .is-nearest))
-    ∙ ap₂ _&&_ (same-bytes-is (y .header .raw) (h .raw) (c .same)) (again-is (y .countdown) f (y .since ▸ r) (c .counted))
+    ∙ ap₂ _&&_ (same-numbers-is (y .header .raw) (h .raw) (c .same)) (again-is (y .countdown) f (y .since ▸ r) (c .counted))

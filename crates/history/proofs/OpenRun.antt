@@ -9,7 +9,7 @@ use lib.Dec.{eqb}
 use borrow.Author.Tests.{eqb-true, eqb-false, eq-eqb, ne-eqb}
 use Rattle.history.specs.Line.{Line, start, _▸_, _⧺_, count, each, Every}
 use Rattle.history.specs.Slots.{same-place, next, due, Header, Heard, nothing, fragmented, unfragmented, frag, end, Report}
-use Rattle.store.specs.Store.{same-bytes}
+use Rattle.store.specs.Store.{same-numbers}
 use Rattle.store.proofs.Blocks.{same-self}
 use Rattle.history.specs.declared.Place.{Place}
 use Rattle.history.specs.Step.{Open, in-turn, is-last, wane, older, still, opening, unless, adding, keeping, assembling, step, after}
@@ -33,8 +33,8 @@ same-place-true p q e =
 pub same-place-is : (p q : Place) → p ≡ q → same-place p q ≡ true
 same-place-is p q e = ap₂ _&&_ (eq-eqb (p .frame) (q .frame) (λ i. e i .frame)) (eq-eqb (p .slot) (q .slot) (λ i. e i .slot))
 
-pub same-bytes-is : (a b : List ℕ) → a ≡ b → same-bytes a b ≡ true
-same-bytes-is a b e = subst (λ (c : List ℕ). same-bytes a c ≡ true) e (same-self a)
+pub same-numbers-is : (a b : List ℕ) → a ≡ b → same-numbers a b ≡ true
+same-numbers-is a b e = subst (λ (c : List ℕ). same-numbers a c ≡ true) e (same-self a)
 
 pub turn-true : (hs : History) (q : Place) → in-turn (after hs .last) q ≡ true → Unbroken hs q
 unfolding after step

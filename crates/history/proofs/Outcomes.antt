@@ -9,13 +9,13 @@ use lib.Dec.{eqb}
 use borrow.Author.Tests.{eqb-true, eqb-false, eq-eqb, ne-eqb, not-true}
 use Rattle.history.specs.Line.{_▸_, count}
 use Rattle.history.specs.Slots.{same-place, Header, Heard, nothing, fragmented, unfragmented, frag, end, Report}
-use Rattle.store.specs.Store.{same-bytes}
+use Rattle.store.specs.Store.{same-numbers}
 use Rattle.store.proofs.Blocks.{same-is}
 use Rattle.blocks.specs.declared.header.Fields.{Fields}
 use Rattle.history.specs.declared.Place.{Place}
 use Rattle.history.specs.Step.{Open, Near, Outcome, quiet, single, joined, opened, kept, copy, in-turn, repeats, older, still, still-near, handing, frag-out, end-out, telling, dropping, drop-mark, answer, after, outcome-at, dropped-at}
 use Rattle.history.specs.History.{History, Unbroken, NotFragmented, Run, IsOpen, next-due, Closes, Keeps, Singles, Copies, Opens, DueKind, Repeats, Ends, broken, other-header, missed, Drops}
-use Rattle.history.proofs.OpenRun.{and-true, same-bytes-is, same-place-true, same-place-is, turn-true, turn-is, report, shape, Holds, holds, found, left, again-true, again-is}
+use Rattle.history.proofs.OpenRun.{and-true, same-numbers-is, same-place-true, same-place-is, turn-true, turn-is, report, shape, Holds, holds, found, left, again-true, again-is}
 use Rattle.history.proofs.NearestHeader.{copy-test, copy-true, copy-is}
 
 -- What each outcome says of the history.
@@ -190,13 +190,13 @@ repeat-test u r h f = h .for-us && (eqb (count (u .blocks)) 0 && repeats (u .hea
 
 repeat-is : (u : Run) (r : Report) (h : Header) (f : ℕ) → Repeats u r h f → repeat-test u r h f ≡ true
 repeat-is u r h f (w, a, b, c) =
-    ap₂ _&&_ w (ap₂ _&&_ (eq-eqb (count (u .blocks)) 0 a) (ap₂ _&&_ (same-bytes-is (u .header .raw) (h .raw) b) (again-is (u .countdown) f (u .since ▸ r) c)))
+    ap₂ _&&_ w (ap₂ _&&_ (eq-eqb (count (u .blocks)) 0 a) (ap₂ _&&_ (same-numbers-is (u .header .raw) (h .raw) b) (again-is (u .countdown) f (u .since ▸ r) c)))
 
 repeat-true : (u : Run) (r : Report) (h : Header) (f : ℕ) → repeat-test u r h f ≡ true → Repeats u r h f
 repeat-true u r h f e =
     let w = and-true (h .for-us) (eqb (count (u .blocks)) 0 && repeats (u .header .raw) (left (suc (u .countdown)) (u .since ▸ r)) h f) e in
     let a = and-true (eqb (count (u .blocks)) 0) (repeats (u .header .raw) (left (suc (u .countdown)) (u .since ▸ r)) h f) (w .1) in
-    let b = and-true (same-bytes (u .header .raw) (h .raw)) (eqb (left (suc (u .countdown)) (u .since ▸ r)) (suc f)) (a .1) in
+    let b = and-true (same-numbers (u .header .raw) (h .raw)) (eqb (left (suc (u .countdown)) (u .since ▸ r)) (suc f)) (a .1) in
     (w .0, eqb-true (count (u .blocks)) 0 (a .0), same-is (u .header .raw) (h .raw) (b .0), again-true (u .countdown) f (u .since ▸ r) (b .1))
 
 ends-in-turn : (hs : History) (u : Run) (q : Place) (x : Heard) → IsOpen hs u → dropping true (older q (shape u)) q x ≡ true → Ends hs u (report q x)

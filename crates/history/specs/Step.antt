@@ -6,7 +6,7 @@ use mathlib.Core.Option.{Option, none, some}
 use lib.Dec.{eqb}
 use Rattle.history.specs.Line.{Line, start, _▸_}
 use Rattle.history.specs.Slots.{same-place, next, due, no-fields, Header, Heard, nothing, fragmented, unfragmented, frag, end, Report}
-use Rattle.store.specs.Store.{same-bytes}
+use Rattle.store.specs.Store.{same-numbers}
 use Rattle.blocks.specs.declared.header.Fields.{Fields}
 use Rattle.history.specs.declared.Place.{Place}
 
@@ -85,7 +85,7 @@ is-last a = eqb (a .kept) (a .more)
 
 -- The header h with countdown f repeats an earlier one.
 abbrev pub repeats : List ℕ → ℕ → Header → ℕ → Bool
-repeats raw again h f = same-bytes raw (h .raw) && eqb again (suc f)
+repeats raw again h f = same-numbers raw (h .raw) && eqb again (suc f)
 
 -- A countdown falls by one with each frame, at slot 1.
 abbrev pub wane : Place → ℕ → ℕ

@@ -7,7 +7,7 @@ use Prim.Native.Nat.{ℕ, suc, _≤_}
 use native.Mathlib.Omega.{arith}
 use lib.Dec.{eqb, leb}
 use lib.ListN.{length, take, drop}
-use borrow.Author.Tests.{eqb-true, leb-true}
+use borrow.Author.Tests.{eqb-true, eqb-false, leb-true}
 use Rattle.store.specs.Store.{handed}
 use Rattle.blocks.specs.Continuation.{readContinuation}
 use Rattle.blocks.proofs.FaultLaws.{all-zero, holds}
@@ -17,7 +17,7 @@ use Rattle.history.specs.History.{History}
 use Rattle.history.specs.Step.{Open, State, message-of, in-turn, still, ends-here, drop-mark, telling, step, answer, after, outcome-at, dropped-at}
 use Rattle.receiver.specs.Lent.{Lent, brought, heardSlot, reportRules, headerIn, headerHeard, blockHeard, heard, faultIn}
 use Rattle.receiver.specs.Held.{passedBy, nothingIn, lostAt, newReceiver, settingsFit}
-use Rattle.receiver.specs.Taken.{headerTo, headerOver, blockTo, blockOver, takenBy, takenOver}
+use Rattle.receiver.specs.Taken.{headerTo, headerOver, blockTo, blockOver, takenBy, takenOver, repliedBy, repliedOver}
 use Rattle.receiver.specs.View.{assemblyOf, receiverOf, answerOf, replyOf}
 use Rattle.receiver.specs.Reached.{reportOf, reports, refusedWith, Accepted, Leads, Reached, Canonical, closed, assembling, Answered, Hears}
 use Rattle.receiver.specs.declared.unit.Settings.{Settings}
@@ -219,16 +219,16 @@ fresh-reached individual group mni e = record { settings = unit individual group
 -- ---- what `hear` returns
 
 module _ (before : Receiver) (k : Reached before) (l : Lent) (old : List ℕ) where
-  pub not-heard : {f : ℕ} → f ≡ refusedWith l old → (f ≡ 0 → ⊥) → {r : Reply} → r ≡ passedBy before 0 f → Reached (r .receiver) × Hears before l r old old
-  not-heard {f} e n {r} q = (
+  not-heard : {f : ℕ} → f ≡ refusedWith l old → (f ≡ 0 → ⊥) → {r : Reply} → r ≡ passedBy before 0 f → {new : List ℕ} → new ≡ old → Reached (r .receiver) × Hears before l r old new
+  not-heard {f} e n {r} q o = (
     rw q k,
     record {
-      refused = λ m i. let z : f ≡ suc m = e ∙ i in record { answer = rw (q, z) refl; receiver = rw q refl; buffer = refl };
+      refused = λ m i. let z : f ≡ suc m = e ∙ i in record { answer = rw (q, z) refl; receiver = rw q refl; buffer = o };
       answered = λ s ls h i. absurd (n (e ∙ i));
     },
   )
 
-  pub was-heard : refusedWith l old ≡ 0 → {r : Reply} → r ≡ takenBy before (l .frame) (l .slot) (l .kind) (l .blocks)
+  was-heard : refusedWith l old ≡ 0 → {r : Reply} → r ≡ takenBy before (l .frame) (l .slot) (l .kind) (l .blocks)
       → {new : List ℕ} → new ≡ takenOver before (l .frame) (l .slot) (l .kind) (l .blocks) old → Reached (r .receiver) × Hears before l r old new
   was-heard z e o =
       let a = leads-on (k .settings) (k .heard) l before (k .leads) e (passes l old z .0) in (
@@ -238,3 +238,14 @@ module _ (before : Receiver) (k : Reached before) (l : Lent) (old : List ℕ) wh
           answered = λ s ls h i. answered s ls l before h e old o;
         },
       )
+
+  replied-when : {f : ℕ} (d : Bool) → eqb f 0 ≡ d → f ≡ refusedWith l old
+      → {r : Reply} → r ≡ cond d (takenBy before (l .frame) (l .slot) (l .kind) (l .blocks)) (passedBy before 0 f)
+      → {new : List ℕ} → new ≡ cond d (takenOver before (l .frame) (l .slot) (l .kind) (l .blocks) old) old → Reached (r .receiver) × Hears before l r old new
+  replied-when {f} true t e q o = was-heard (sym e ∙ eqb-true f 0 t) q o
+  replied-when {f} false t e q o = not-heard e (eqb-false f 0 t) q o
+
+  pub replied : {f : ℕ} → f ≡ refusedWith l old → {r : Reply} → r ≡ repliedBy before f (l .frame) (l .slot) (l .kind) (l .blocks)
+      → {new : List ℕ} → new ≡ repliedOver before f (l .frame) (l .slot) (l .kind) (l .blocks) old → Reached (r .receiver) × Hears before l r old new
+  unfolding repliedBy repliedOver
+  replied {f} e q o = replied-when (eqb f 0) refl e q o

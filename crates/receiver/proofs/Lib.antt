@@ -3,6 +3,8 @@ pub mod ViewLaws
 pub mod ReplyLaws
 pub mod Readings
 pub mod Rooms
+pub mod SoundLaws
+pub mod VerdictLaws
 pub mod HeardLaws
 pub mod HearLaws
 pub mod AnswerLaws

@@ -4,7 +4,7 @@ use mathlib.Core.List.{List, []}
 use Prim.Native.Nat.{ℕ, suc, _+_, _-_}
 use lib.Dec.{eqb, leb}
 use lib.ListN.{replicate}
-use Rattle.store.specs.Store.{storeOf, joinedTo, firstOver, same-bytes}
+use Rattle.store.specs.Store.{storeOf, joinedTo, firstOver, same-numbers}
 use Rattle.blocks.specs.Slots.{dueOf}
 use Rattle.blocks.specs.declared.header.Header as read
 use Rattle.history.specs.Slots.{no-fields, follows}
@@ -20,7 +20,7 @@ abbrev pub waned : ℕ → ℕ → ℕ
 waned slot n = cond (eqb slot 1) (n - 1) n
 
 abbrev pub noNearest : Nearest
-noNearest = record { held = 0; raw = replicate 16 0; again = 0 }
+noNearest = record { held = 0; raw = replicate 2 0; again = 0 }
 
 abbrev pub agedNearest : Bool → ℕ → Nearest → Nearest
 agedNearest false slot n = noNearest
@@ -31,7 +31,7 @@ noAssembly =
     record {
       held = 0;
       fields = no-fields;
-      raw = replicate 16 0;
+      raw = replicate 2 0;
       again = 0;
       more = 0;
       frame = 0;
@@ -62,7 +62,7 @@ dueIn a frame slot = eqb (a .held) 1 && (eqb slot 1 && eqb frame (dueOf (a .fram
 
 -- A header, its SCH/H but for the countdown and its countdown, repeats one that is held.
 abbrev pub repeatsHeld : ℕ → List ℕ → ℕ → List ℕ → ℕ → Bool
-repeatsHeld held raw again other f = eqb held 1 && (same-bytes raw other && eqb again (suc f))
+repeatsHeld held raw again other f = eqb held 1 && (same-numbers raw other && eqb again (suc f))
 
 -- The nearest header is this one.
 abbrev pub nearestFrom : List ℕ → ℕ → Nearest

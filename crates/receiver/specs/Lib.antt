@@ -2,5 +2,6 @@
 pub mod Lent
 pub mod Held
 pub mod Taken
+pub mod Verdicts
 pub mod View
 pub mod Reached

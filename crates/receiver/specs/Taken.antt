@@ -1,4 +1,4 @@
--- What an accepted report makes of the record and of the lent buffer, by the kind of report and by what its blocks read as.
+-- What a report makes of the record and of the lent buffer: an accepted one by its kind and by what its blocks read as, a refused one nothing.
 use mathlib.Core.Bool.{cond}
 use mathlib.Core.List.{List}
 use Prim.Native.Nat.{ℕ}
@@ -8,7 +8,7 @@ use Rattle.bits.specs.Bits.{bitsOf}
 use Rattle.store.specs.Store.{without}
 use Rattle.blocks.specs.Header.{readReported}
 use Rattle.blocks.specs.Continuation.{readContinuation}
-use Rattle.receiver.specs.Held.{nothingIn, fragIn, endIn, endOver, fragmentedTo, unfragmentedTo, unfragmentedOver, agedReceiver, lostAt}
+use Rattle.receiver.specs.Held.{passedBy, nothingIn, fragIn, endIn, endOver, fragmentedTo, unfragmentedTo, unfragmentedOver, agedReceiver, lostAt}
 use Rattle.receiver.specs.declared.Receiver.{Receiver}
 use Rattle.receiver.specs.declared.Reply.{Reply}
 
@@ -50,3 +50,10 @@ abbrev pub takenOver : Receiver → ℕ → ℕ → ℕ → List ℕ → List �
 takenOver r frame slot kind b old =
     let a = agedReceiver r frame slot in
     cond (eqb kind 2) (headerOver a frame slot (take 8 b) (drop 8 b) old) (cond (eqb kind 3) (blockOver a frame slot b old) old)
+
+-- A report that is refused for a fault, or accepted where that is 0.
+unfoldable pub repliedBy : Receiver → ℕ → ℕ → ℕ → ℕ → List ℕ → Reply
+repliedBy r fault frame slot kind b = cond (eqb fault 0) (takenBy r frame slot kind b) (passedBy r 0 fault)
+
+unfoldable pub repliedOver : Receiver → ℕ → ℕ → ℕ → ℕ → List ℕ → List ℕ → List ℕ
+repliedOver r fault frame slot kind b old = cond (eqb fault 0) (takenOver r frame slot kind b old) old

@@ -1,21 +1,23 @@
 // An open assembly.
 ghost use mathlib.Core.Path.{_≡_};
 ghost use Prim.Native.Nat.{_+_, _≤_};
-ghost use lib.ListN.{length, take, drop};
-ghost use Rattle.bits.specs.Bits.{bitsOf, Inside};
-ghost use Rattle.receiver.specs.Held.{noAssembly, agedAssembly, dueIn, keptIn, droppedBy, openedBy};
+ghost use lib.ListN.{length};
+ghost use Rattle.bits.specs.Bits.{Inside};
+ghost use Rattle.receiver.specs.Held.{noAssembly, agedAssembly, dueIn, droppedBy};
+ghost use Rattle.receiver.specs.Verdicts.{openIn, withStore, openedAs, keptAs, openAfter, storeAfter, bitsFor};
 use crate::answer::no_fields;
 use crate::nearest::repeats;
 use crate::place::wane;
+use crate::verdict::Verdict;
 use blocks::header::Fields;
-use blocks::header::Header;
 
 // An open assembly, where `held` is 1: its header's fields, its SCH/H but for the countdown and one more than the countdown that a repeat has now; one less
 // than its slot count; its frame and countdown; the blocks kept; the bits joined, and the store that holds them.
+#[repr(C)]
 pub struct Assembly {
     pub held: u8,
     pub fields: Fields,
-    pub raw: [u8; 16],
+    pub raw: [u64; 2],
     pub again: u8,
     pub more: u8,
     pub frame: u8,
@@ -32,7 +34,7 @@ impl Assembly {
         Assembly {
             held: 0,
             fields: no_fields(),
-            raw: [0; 16],
+            raw: [0; 2],
             again: 0,
             more: 0,
             frame: 0,
@@ -69,7 +71,7 @@ impl Assembly {
     }
 
     // The mark that a fragmented header leaves on it: none where it repeats the assembly's own before the first block.
-    pub(crate) fn dropped_by(self, meant: bool, raw: [u8; 16], countdown: u8, lost: u8) -> u8
+    pub(crate) fn dropped_by(self, meant: bool, raw: [u64; 2], countdown: u8, lost: u8) -> u8
         ensures { λ r. ⌜ r ≡ droppedBy self meant raw countdown lost ⌝ }
     {
         if self.held != 1 {
@@ -88,39 +90,145 @@ impl Assembly {
         1
     }
 
-    // The one that a header opens.
-    pub(crate) fn opened_by(x: Header, raw: [u8; 16], frame: u8, h: &[u8]) -> Assembly
-        requires { ⌜ (1 ≤ x .count) × (x .countdown ≤ 3) × (x .bits ≤ 4096) × Inside (length (now h)) (x .first) (x .first + x .bits) ⌝ }
-        ensures { λ r. ⌜ r ≡ openedBy x raw frame (take (x .bits) (drop (x .first) (bitsOf (now (h .entry))))) ⌝ }
+    // Its store.
+    pub(crate) fn held_bits(self) -> [u8; 512]
+        ensures { λ r. ⌜ r ≡ self .store ⌝ }
     {
-        let none = store::nothing();
-        let store = store::joined(none, 0, h, x.first, x.bits);
-        let fields = x.fields;
-        Assembly {
-            held: 1,
+        self.store
+    }
+
+    // But for its store.
+    pub(crate) fn open(self) -> Open
+        ensures { λ r. ⌜ r ≡ openIn self ⌝ }
+    {
+        let fields = self.fields;
+        let raw = self.raw;
+        Open {
+            held: self.held,
             fields,
             raw,
-            again: x.countdown + 1,
-            more: x.count - 1,
-            frame,
-            countdown: x.countdown,
+            again: self.again,
+            more: self.more,
+            frame: self.frame,
+            countdown: self.countdown,
+            kept: self.kept,
+            bits: self.bits,
+        }
+    }
+}
+
+// An assembly but for its store.
+pub struct Open {
+    pub held: u8,
+    pub fields: Fields,
+    pub raw: [u64; 2],
+    pub again: u8,
+    pub more: u8,
+    pub frame: u8,
+    pub countdown: u8,
+    pub kept: u8,
+    pub bits: usize,
+}
+
+impl Open {
+    pub(crate) fn none() -> Open
+        ensures { λ r. ⌜ r ≡ openIn noAssembly ⌝ }
+    {
+        Open {
+            held: 0,
+            fields: no_fields(),
+            raw: [0; 2],
+            again: 0,
+            more: 0,
+            frame: 0,
+            countdown: 0,
             kept: 0,
-            bits: x.bits,
-            store,
+            bits: 0,
         }
     }
 
-    // With one block more, the `n` bits of `b` from bit `from` on.
-    pub(crate) fn kept_with(self, b: &[u8], from: usize, n: usize) -> Assembly
-        requires { ⌜ (self .kept ≤ 14) × (self .bits + n ≤ 4096) × Inside (length (now b)) from (from + n) ⌝ }
-        ensures { λ r. ⌜ r ≡ keptIn self n (take n (drop from (bitsOf (now (b .entry))))) ⌝ }
+    // The one that a header opens.
+    fn opened_by(v: Verdict, frame: u8) -> Open
+        requires { ⌜ (1 ≤ v .count) × (v .countdown ≤ 3) ⌝ }
+        ensures { λ r. ⌜ r ≡ openedAs v frame ⌝ }
     {
-        let held = self.store;
-        let store = store::joined(held, self.bits, b, from, n);
-        let mut a = self;
-        a.kept = self.kept + 1;
-        a.bits = self.bits + n;
-        a.store = store;
-        a
+        let fields = v.fields;
+        let raw = v.raw;
+        Open {
+            held: 1,
+            fields,
+            raw,
+            again: v.countdown + 1,
+            more: v.count - 1,
+            frame,
+            countdown: v.countdown,
+            kept: 0,
+            bits: v.bits,
+        }
+    }
+
+    // With one block more.
+    fn kept_with(self, n: usize) -> Open
+        requires { ⌜ (self .kept ≤ 14) × (self .bits + n ≤ 4096) ⌝ }
+        ensures { λ r. ⌜ r ≡ keptAs n self ⌝ }
+    {
+        let mut o = self;
+        o.kept = self.kept + 1;
+        o.bits = self.bits + n;
+        o
+    }
+
+    // What becomes of it.
+    pub(crate) fn after(self, v: Verdict, frame: u8) -> Open
+        requires { ⌜ (v .countdown ≤ 3) × (v .act ≡ 2 → 1 ≤ v .count) × (self .kept ≤ 14) × (self .bits + v .bits ≤ 4096) ⌝ }
+        ensures { λ r. ⌜ r ≡ openAfter v frame self ⌝ }
+    {
+        if v.act == 0 {
+            return self;
+        }
+        if v.act == 1 {
+            return Open::none();
+        }
+        if v.act == 2 {
+            return Open::opened_by(v, frame);
+        }
+        self.kept_with(v.bits)
+    }
+
+    pub(crate) fn with(self, store: [u8; 512]) -> Assembly
+        ensures { λ r. ⌜ r ≡ withStore self store ⌝ }
+    {
+        let fields = self.fields;
+        let raw = self.raw;
+        Assembly {
+            held: self.held,
+            fields,
+            raw,
+            again: self.again,
+            more: self.more,
+            frame: self.frame,
+            countdown: self.countdown,
+            kept: self.kept,
+            bits: self.bits,
+            store,
+        }
+    }
+}
+
+// What becomes of the store of an assembly that has `at` bits; `part` holds the message bits that are brought.
+pub(crate) fn change(store: &mut [u8], at: usize, v: Verdict, part: &[u8])
+    requires { ⌜ (length (now store) ≡ 512) × (at + v .bits ≤ 4096) × Inside (length (now part)) (v .from) (v .from + v .bits) ⌝ }
+    ensures { λ r. ⌜ now (store .exit) ≡ storeAfter (v .act) at (bitsFor v (now (part .entry))) (now (store .entry)) ⌝ }
+{
+    if v.act == 0 {
+        return;
+    }
+    if v.act == 3 {
+        store::join(store, at, part, v.from, v.bits);
+        return;
+    }
+    store::wipe(store);
+    if v.act == 2 {
+        store::join(store, 0, part, v.from, v.bits);
     }
 }

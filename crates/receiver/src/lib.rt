@@ -5,30 +5,37 @@ pub mod nearest;
 pub mod place;
 pub mod report;
 pub mod unit;
+pub mod verdict;
 
 ghost use mathlib.Core.Path.{_≡_};
 ghost use mathlib.Core.Bool.{true};
 ghost use Prim.Native.Nat.{_+_, _≤_};
-ghost use lib.ListN.{length, take, drop};
-ghost use Rattle.bits.specs.Bits.{bitsOf, Inside};
-ghost use Rattle.store.specs.Store.{without};
+ghost use lib.ListN.{length};
 ghost use Rattle.receiver.specs.Lent.{brought, lent};
 ghost use Rattle.receiver.specs.Reached.{Reached, Hears};
-ghost use Rattle.receiver.specs.Taken.{headerTo, headerOver, blockTo, blockOver, takenBy, takenOver};
-ghost use Rattle.receiver.specs.Held.{passedBy, missedBy, nothingIn, fragIn, endIn, endOver, fragmentedTo, unfragmentedTo, unfragmentedOver, agedReceiver, lostAt, newReceiver, freshOf};
+ghost use Rattle.receiver.specs.Taken.{repliedBy, repliedOver};
+ghost use Rattle.receiver.specs.Verdicts.{headerFor, blockFor, judgedBy, facedBy, skippedFor};
+ghost use Rattle.receiver.specs.Held.{agedReceiver, lostAt, newReceiver, freshOf};
 use crate::answer::Answer;
-use crate::answer::plain;
+use crate::answer::told;
 use crate::assembly::Assembly;
+use crate::assembly::change;
 use crate::nearest::Nearest;
 use crate::place::follows;
 use crate::report::report_rules;
 use crate::unit::Settings;
 use crate::unit::settings_fit;
-use blocks::header::Header;
+use crate::verdict::Verdict;
+use crate::verdict::on_end;
+use crate::verdict::on_frag;
+use crate::verdict::on_fragmented;
+use crate::verdict::on_nothing;
+use crate::verdict::on_unfragmented;
 use blocks::sizes::SchS;
 use history::Place;
 
 // The receiver. What is not there is zero.
+#[repr(C)]
 pub struct Receiver {
     pub settings: Settings,
     pub place: Place,
@@ -43,9 +50,20 @@ pub struct Reply {
 }
 
 // A fresh receiver, or the fault of its settings.
+#[repr(C)]
 pub struct Fresh {
     pub fault: u8,
     pub receiver: Receiver,
+}
+
+// The bytes of a report's blocks before the one that holds message bits: SCH/S for a header.
+fn skipped(fault: u8, kind: u8) -> usize
+    ensures { λ r. ⌜ r ≡ skippedFor fault kind ⌝ }
+{
+    if fault != 0 {
+        return 0;
+    }
+    if kind == 2 { SchS::BYTES } else { 0 }
 }
 
 impl Receiver {
@@ -107,222 +125,112 @@ impl Receiver {
         self.assembly.held
     }
 
-    fn passed_by(self, dropped: u8, fault: u8) -> Reply
-        ensures { λ r. ⌜ r ≡ passedBy self dropped fault ⌝ }
+    // The receiver that judges a report: aged, or as it was where the report is refused.
+    fn faced(self, fault: u8, frame: u8, slot: u8) -> Receiver
+        ensures { λ r. ⌜ r ≡ facedBy self fault frame slot ⌝ }
     {
-        Reply {
-            receiver: self,
-            answer: plain(0, dropped, fault),
+        if fault != 0 {
+            return self;
         }
-    }
-
-    fn missed_by(self, fault: u8) -> Reply
-        ensures { λ r. ⌜ r ≡ missedBy self fault ⌝ }
-    {
-        let mut r = self;
-        r.assembly = Assembly::none();
-        Reply {
-            receiver: r,
-            answer: plain(0, 1, fault),
-        }
-    }
-
-    // Nothing was heard, or a block with a fault.
-    fn on_nothing(self, frame: u8, slot: u8, fault: u8, lost: u8) -> Reply
-        ensures { λ r. ⌜ r ≡ nothingIn self frame slot fault lost ⌝ }
-    {
-        if self.assembly.due(frame, slot) {
-            return self.missed_by(fault);
-        }
-        self.passed_by(lost, fault)
-    }
-
-    // A DMAC-FRAG was heard, with the `n` bits of `b` from bit `from` on.
-    fn on_frag(self, frame: u8, slot: u8, b: &[u8], from: usize, n: usize, lost: u8) -> Reply
-        requires { ⌜ (self .assembly .kept ≤ 14) × (self .assembly .bits + n ≤ 4096) × Inside (length (now b)) from (from + n) ⌝ }
-        ensures { λ r. ⌜ r ≡ fragIn self frame slot n (take n (drop from (bitsOf (now (b .entry))))) lost ⌝ }
-    {
-        if !self.assembly.due(frame, slot) {
-            return self.passed_by(lost, 0);
-        }
-        if self.assembly.kept == self.assembly.more {
-            return self.missed_by(0);
-        }
-        let mut r = self;
-        r.assembly = self.assembly.kept_with(b, from, n);
-        Reply {
-            receiver: r,
-            answer: plain(4, lost, 0),
-        }
-    }
-
-    // A DMAC-END was heard, with the `n` bits of `b` from bit `from` on.
-    fn on_end(
-        self,
-        frame: u8,
-        slot: u8,
-        b: &[u8],
-        from: usize,
-        n: usize,
-        lost: u8,
-        message: &mut [u8],
-    ) -> Reply
-        requires { ⌜ (self .assembly .bits + n ≤ 4096) × Inside (length (now b)) from (from + n) × (512 ≤ length (now message)) ⌝ }
-        ensures { λ r. ⌜ (r ≡ endIn self frame slot n lost) × (now (message .exit) ≡ endOver self frame slot n (take n (drop from (bitsOf (now (b .entry))))) (now (message .entry))) ⌝ }
-    {
-        if !self.assembly.due(frame, slot) {
-            return self.passed_by(lost, 0);
-        }
-        if self.assembly.kept != self.assembly.more {
-            return self.missed_by(0);
-        }
-        let a = self.assembly;
-        let held = a.store;
-        let store = store::joined(held, a.bits, b, from, n);
-        let bits = a.bits + n;
-        store::hand_over(store, bits, message);
-        let fields = a.fields;
-        let mut r = self;
-        r.assembly = Assembly::none();
-        Reply {
-            receiver: r,
-            answer: Answer {
-                outcome: 2,
-                dropped: lost,
-                fault: 0,
-                bits,
-                fields,
-            },
-        }
-    }
-
-    // A fragmented header was heard, and `h` is its SCH/H.
-    fn on_fragmented(self, frame: u8, x: Header, h: &[u8], lost: u8) -> Reply
-        requires { ⌜ (1 ≤ x .count) × (x .countdown ≤ 3) × (x .bits ≤ 4096) × Inside (length (now h)) (x .first) (x .first + x .bits) × (length (now h) ≡ 16) ⌝ }
-        ensures { λ r. ⌜ r ≡ fragmentedTo self frame x (without 16 (now (h .entry))) (take (x .bits) (drop (x .first) (bitsOf (now (h .entry))))) lost ⌝ }
-    {
-        let raw = store::without_two(h, 16);
-        let fields = x.fields;
-        let meant = self.settings.meant(fields);
-        let mark = self.assembly.dropped_by(meant, raw, x.countdown, lost);
-        let mut r = self;
-        if meant {
-            r.nearest = Nearest::from(raw, x.countdown);
-            r.assembly = Assembly::opened_by(x, raw, frame, h);
-            return Reply {
-                receiver: r,
-                answer: plain(3, mark, 0),
-            };
-        }
-        r.assembly = Assembly::none();
-        Reply {
-            receiver: r,
-            answer: plain(0, mark, 0),
-        }
-    }
-
-    // An unfragmented header was heard, and `h` is its SCH/H.
-    fn on_unfragmented(
-        self,
-        frame: u8,
-        slot: u8,
-        x: Header,
-        h: &[u8],
-        lost: u8,
-        message: &mut [u8],
-    ) -> Reply
-        requires { ⌜ (x .countdown ≤ 3) × (x .bits ≤ 4096) × Inside (length (now h)) (x .first) (x .first + x .bits) × (length (now h) ≡ 16) × (512 ≤ length (now message)) ⌝ }
-        ensures { λ r. ⌜ (r ≡ unfragmentedTo self frame slot x (without 12 (now (h .entry))) lost) × (now (message .exit) ≡ unfragmentedOver self x (without 12 (now (h .entry))) (take (x .bits) (drop (x .first) (bitsOf (now (h .entry))))) (now (message .entry))) ⌝ }
-    {
-        let passed = self.on_nothing(frame, slot, 0, lost);
-        let fields = x.fields;
-        if !self.settings.meant(fields) {
-            return passed;
-        }
-        let raw = store::without_two(h, 12);
-        let dropped = passed.answer.dropped;
-        let mut r = passed.receiver;
-        r.nearest = Nearest::from(raw, x.countdown);
-        if self.nearest.copied_by(raw, x.countdown) {
-            return Reply {
-                receiver: r,
-                answer: plain(5, dropped, 0),
-            };
-        }
-        let none = store::nothing();
-        let store = store::joined(none, 0, h, x.first, x.bits);
-        store::hand_over(store, x.bits, message);
-        Reply {
-            receiver: r,
-            answer: Answer {
-                outcome: 1,
-                dropped,
-                fault: 0,
-                bits: x.bits,
-                fields,
-            },
-        }
+        self.aged(frame, slot)
     }
 
     // An SCH/S with its SCH/H was heard.
-    fn on_header(
-        self,
-        frame: u8,
-        slot: u8,
-        s: &[u8],
-        h: &[u8],
-        lost: u8,
-        message: &mut [u8],
-    ) -> Reply
-        requires { ⌜ 512 ≤ length (now message) ⌝ }
-        ensures { λ r. ⌜ (r ≡ headerTo self frame slot (now (s .entry)) (now (h .entry)) lost) × (now (message .exit) ≡ headerOver self frame slot (now (s .entry)) (now (h .entry)) (now (message .entry))) ⌝ }
+    fn on_header(self, frame: u8, slot: u8, s: &[u8], h: &[u8], lost: u8) -> Verdict
+        ensures { λ r. ⌜ r ≡ headerFor self frame slot (now (s .entry)) (now (h .entry)) lost ⌝ }
     {
         let x = blocks::header::read_reported(frame, slot, s, h);
+        let due = self.assembly.due(frame, slot);
         if x.fault != 0 {
-            return self.on_nothing(frame, slot, x.fault, lost);
+            return on_nothing(due, x.fault, lost);
         }
+        let fields = x.fields;
+        let meant = self.settings.meant(fields);
         if x.fragmented == 1 {
-            return self.on_fragmented(frame, x, h, lost);
+            let raw = store::without_two(h, 16);
+            let mark = self.assembly.dropped_by(meant, raw, x.countdown, lost);
+            return on_fragmented(meant, mark, x, raw);
         }
-        self.on_unfragmented(frame, slot, x, h, lost, message)
+        let raw = store::without_two(h, 12);
+        let copied = self.nearest.copied_by(raw, x.countdown);
+        on_unfragmented(due, meant, copied, lost, x, raw)
     }
 
     // An SCH/F was heard.
-    fn on_block(self, frame: u8, slot: u8, b: &[u8], lost: u8, message: &mut [u8]) -> Reply
-        requires { ⌜ (self .assembly .kept ≤ 14) × (self .assembly .bits + 264 ≤ 4096) × (512 ≤ length (now message)) ⌝ }
-        ensures { λ r. ⌜ (r ≡ blockTo self frame slot (now (b .entry)) lost) × (now (message .exit) ≡ blockOver self frame slot (now (b .entry)) (now (message .entry))) ⌝ }
+    fn on_block(self, frame: u8, slot: u8, b: &[u8], lost: u8) -> Verdict
+        ensures { λ r. ⌜ r ≡ blockFor self frame slot (now (b .entry)) lost ⌝ }
     {
         let x = blocks::continuation::read_continuation(b);
+        let due = self.assembly.due(frame, slot);
         if x.fault != 0 {
-            return self.on_nothing(frame, slot, x.fault, lost);
+            return on_nothing(due, x.fault, lost);
         }
+        let full = self.assembly.kept == self.assembly.more;
         if x.last == 1 {
-            return self.on_end(frame, slot, b, x.first, x.bits, lost, message);
+            return on_end(due, full, x.first, x.bits, lost);
         }
-        self.on_frag(frame, slot, b, x.first, x.bits, lost)
+        on_frag(due, full, x.first, x.bits, lost)
     }
 
-    // A report that is not refused.
-    fn accepted(self, frame: u8, slot: u8, kind: u8, blocks: &[u8], message: &mut [u8]) -> Reply
-        requires { ⌜ (self .assembly .kept ≤ 14) × (self .assembly .bits + 264 ≤ 4096) × (brought kind (length (now blocks)) ≡ true) × (512 ≤ length (now message)) ⌝ }
-        ensures { λ r. ⌜ (r ≡ takenBy self frame slot kind (now (blocks .entry))) × (now (message .exit) ≡ takenOver self frame slot kind (now (blocks .entry)) (now (message .entry))) ⌝ }
+    // What a report comes to; `fault` is the one that it is refused for, 0 where it is accepted.
+    fn judged(self, fault: u8, frame: u8, slot: u8, kind: u8, lost: u8, blocks: &[u8]) -> Verdict
+        requires { ⌜ (fault ≡ 0 → brought kind (length (now blocks)) ≡ true) ⌝ }
+        ensures { λ r. ⌜ r ≡ judgedBy self fault frame slot kind lost (now (blocks .entry)) ⌝ }
     {
-        let lost = self.lost_at(frame, slot);
-        let r = self.aged(frame, slot);
+        if fault != 0 {
+            return Verdict::of(0, 0, fault, 0, 0, 0);
+        }
         if kind == 2 {
-            return r.on_header(
+            return self.on_header(
                 frame,
                 slot,
                 &blocks[..SchS::BYTES],
                 &blocks[SchS::BYTES..],
                 lost,
-                message,
             );
         }
         if kind == 3 {
-            return r.on_block(frame, slot, blocks, lost, message);
+            return self.on_block(frame, slot, blocks, lost);
         }
-        r.on_nothing(frame, slot, 0, lost)
+        on_nothing(self.assembly.due(frame, slot), 0, lost)
+    }
+
+    // The reply to a report that is refused for `fault`, or accepted where that is 0.
+    fn reply(
+        self,
+        fault: u8,
+        frame: u8,
+        slot: u8,
+        kind: u8,
+        blocks: &[u8],
+        message: &mut [u8],
+    ) -> Reply
+        requires { ⌜ (self .assembly .kept ≤ 14) × (self .assembly .bits + 264 ≤ 4096) × (fault ≡ 0 → brought kind (length (now blocks)) ≡ true) × (fault ≡ 0 → 512 ≤ length (now message)) ⌝ }
+        ensures { λ r. ⌜ (r ≡ repliedBy self fault frame slot kind (now (blocks .entry))) × (now (message .exit) ≡ repliedOver self fault frame slot kind (now (blocks .entry)) (now (message .entry))) ⌝ }
+    {
+        let lost = self.lost_at(frame, slot);
+        let r = self.faced(fault, frame, slot);
+        let v = r.judged(fault, frame, slot, kind, lost, blocks);
+        let part = &blocks[skipped(fault, kind)..];
+        let settings = r.settings;
+        let place = r.place;
+        let nearest = r.nearest.after(v);
+        let open = r.assembly.open().after(v, frame);
+        let bits = r.assembly.bits;
+        let fields = r.assembly.fields;
+        let mut store = r.assembly.held_bits();
+        let answer = told(v, bits, fields, &store, part, message);
+        change(&mut store, bits, v, part);
+        let assembly = open.with(store);
+        Reply {
+            receiver: Receiver {
+                settings,
+                place,
+                nearest,
+                assembly,
+            },
+            answer,
+        }
     }
 
     // Hears a slot report: `kind` 1 lends no bytes and brings nothing, 2 lends SCH/S with SCH/H (24 bytes), 3 lends SCH/F (34 bytes). Refused in the order
@@ -333,9 +241,6 @@ impl Receiver {
         ensures { λ r. ⌜ Reached (r .receiver) × Hears self (lent frame slot kind (now (blocks .entry))) r (now (message .entry)) (now (message .exit)) ⌝ }
     {
         let fault = report_rules(frame, slot, kind, blocks.len(), message.len());
-        if fault != 0 {
-            return self.passed_by(0, fault);
-        }
-        self.accepted(frame, slot, kind, blocks, message)
+        self.reply(fault, frame, slot, kind, blocks, message)
     }
 }

@@ -2,18 +2,21 @@
 ghost use mathlib.Core.Path.{_≡_};
 ghost use Prim.Native.Nat.{_≤_};
 ghost use Rattle.receiver.specs.Held.{noNearest, agedNearest, repeatsHeld, nearestFrom, copiedBy};
+ghost use Rattle.receiver.specs.Verdicts.{nearestAfter};
 use crate::place::wane;
+use crate::verdict::Verdict;
 
 // The nearest earlier header for this unit with no break since, where `held` is 1: its SCH/H but for the countdown, and one more than the countdown that
 // a copy of it has now.
+#[repr(C)]
 pub struct Nearest {
     pub held: u8,
-    pub raw: [u8; 16],
+    pub raw: [u64; 2],
     pub again: u8,
 }
 
 // Whether a header, its SCH/H but for the countdown and its countdown, repeats one that is held.
-pub(crate) fn repeats(held: u8, raw: [u8; 16], again: u8, other: [u8; 16], countdown: u8) -> bool
+pub(crate) fn repeats(held: u8, raw: [u64; 2], again: u8, other: [u64; 2], countdown: u8) -> bool
     ensures { λ r. ⌜ r ≡ repeatsHeld held raw again other countdown ⌝ }
 {
     if held != 1 {
@@ -34,7 +37,7 @@ impl Nearest {
     {
         Nearest {
             held: 0,
-            raw: [0; 16],
+            raw: [0; 2],
             again: 0,
         }
     }
@@ -55,7 +58,7 @@ impl Nearest {
     }
 
     // The header with this SCH/H but for the countdown, and this countdown.
-    pub(crate) fn from(raw: [u8; 16], countdown: u8) -> Nearest
+    pub(crate) fn from(raw: [u64; 2], countdown: u8) -> Nearest
         requires { ⌜ countdown ≤ 3 ⌝ }
         ensures { λ r. ⌜ r ≡ nearestFrom raw countdown ⌝ }
     {
@@ -67,10 +70,22 @@ impl Nearest {
     }
 
     // Whether a header is a copy of it.
-    pub(crate) fn copied_by(self, raw: [u8; 16], countdown: u8) -> bool
+    pub(crate) fn copied_by(self, raw: [u64; 2], countdown: u8) -> bool
         ensures { λ r. ⌜ r ≡ copiedBy self raw countdown ⌝ }
     {
         let own = self.raw;
         repeats(self.held, own, self.again, raw, countdown)
+    }
+
+    // The nearest header after the report.
+    pub(crate) fn after(self, v: Verdict) -> Nearest
+        requires { ⌜ v .countdown ≤ 3 ⌝ }
+        ensures { λ r. ⌜ r ≡ nearestAfter v self ⌝ }
+    {
+        if v.near == 1 {
+            let raw = v.raw;
+            return Nearest::from(raw, v.countdown);
+        }
+        self
     }
 }

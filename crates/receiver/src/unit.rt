@@ -5,6 +5,7 @@ ghost use Rattle.receiver.specs.Held.{settingsFit};
 use blocks::header::Fields;
 
 // One individual address, one group address and one MNI, each below 2^24.
+#[repr(C)]
 pub struct Settings {
     pub individual: u32,
     pub group: u32,

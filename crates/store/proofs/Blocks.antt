@@ -1,63 +1,106 @@
--- The laws of blocks of bytes: two compared from a place on, and one with two bits cleared. Assumes nothing.
-use mathlib.Core.Path.{_≡_, refl, ap₂, _∙_}
+-- The laws of blocks as two numbers: two compared, and one with two bits cleared. Assumes nothing.
+use mathlib.Core.Path.{_≡_, refl, sym, ap, ap₂, _∙_}
 use mathlib.Core.Bool.{Bool, true, false, _&&_}
-use mathlib.Core.List.{List, [], _∷_}
-use Prim.Native.Nat.{ℕ, suc, _≤_, _<_}
+use mathlib.Core.List.{List, [], _∷_, _++_}
+use Prim.Native.Nat.{ℕ, _+_, _-_, _*_, _%_, _^_, _≤_, _<_}
 use native.Mathlib.Omega.{arith}
-use borrow.Author.Tests.{eqb-true, eq-eqb, ne-eqb}
+use borrow.Author.Tests.{eqb-true, eq-eqb}
 use lib.Dec.{eqb}
-use lib.ListN.{length, take, drop, getD, drop-of-length-le}
-use lib.Seq.{drop-cons, take-all}
-use Rattle.bits.specs.Bits.{bitsN, bitsOf, over, AllBytes}
-use Rattle.bits.proofs.Numbers.{bitsN-zero}
-use Rattle.bits.proofs.Bytes.{length-bitsOf, length-bytesN}
-use Rattle.bits.proofs.Over.{length-over, over-all}
-use Rattle.store.specs.Store.{without, same-bytes}
-use Rattle.store.proofs.Stores.{bytes-are}
+use lib.ListN.{length, take, drop, getD, length-take, length-drop, take-append-drop}
+use lib.Seq.{take-all, take-take, drop-drop, length-take-le}
+use lib.Bits.{bitOr, or-shifted}
+use lib.Pow.{shl-exact}
+use Rattle.bits.specs.Bits.{bit, num, bitsOf, over, field}
+use Rattle.bits.proofs.Numbers.{num-append, num-cut, drop-of-take, bitsN-num, bitsN-is}
+use Rattle.bits.proofs.Bytes.{length-bitsOf}
+use Rattle.bits.proofs.Over.{over-drop, length-over}
+use Rattle.store.specs.Store.{halves, without, same-numbers}
+use Rattle.store.proofs.Messages.{take-over}
 
--- ---- blocks compared
+-- ---- numbers compared
 
-pub same-self : (a : List ℕ) → same-bytes a a ≡ true
+pub same-self : (a : List ℕ) → same-numbers a a ≡ true
 same-self [] = refl
 same-self (x ∷ xs) = rw (eq-eqb x x refl) (same-self xs)
 
-same-first : (x y : ℕ) (xs ys : List ℕ) (d : Bool) → eqb x y ≡ d → (same-bytes xs ys ≡ true → xs ≡ ys) → d && same-bytes xs ys ≡ true → x ∷ xs ≡ y ∷ ys
+same-first : (x y : ℕ) (xs ys : List ℕ) (d : Bool) → eqb x y ≡ d → (same-numbers xs ys ≡ true → xs ≡ ys) → d && same-numbers xs ys ≡ true → x ∷ xs ≡ y ∷ ys
 same-first x y xs ys true t ih e = ap₂ _∷_ (eqb-true x y t) (ih e)
 same-first x y xs ys false t ih e = let z : _≡_ {A = ℕ} 0 1 = cc in absurd (omega arith)
 
 -- the same are equal
-pub same-is : (a b : List ℕ) → same-bytes a b ≡ true → a ≡ b
+pub same-is : (a b : List ℕ) → same-numbers a b ≡ true → a ≡ b
 same-is [] [] e = refl
 same-is [] (y ∷ ys) e = let z : _≡_ {A = ℕ} 0 1 = cc in absurd (omega arith)
 same-is (x ∷ xs) [] e = let z : _≡_ {A = ℕ} 0 1 = cc in absurd (omega arith)
 same-is (x ∷ xs) (y ∷ ys) e = same-first x y xs ys (eqb x y) refl (same-is xs ys) e
 
--- from a place on
-module _ (a b : List ℕ) (i : ℕ) (ha : i < length a) (hb : i < length b) where
-  pub same-more : getD a i 0 ≡ getD b i 0 → same-bytes (drop i a) (drop i b) ≡ same-bytes (drop (suc i) a) (drop (suc i) b)
-  same-more e = rw (drop-cons a i 0 ha, drop-cons b i 0 hb, eq-eqb _ _ e) refl
+-- ---- two numbers lose nothing
 
-  pub same-not : (getD a i 0 ≡ getD b i 0 → ⊥) → same-bytes (drop i a) (drop i b) ≡ false
-  same-not e = rw (drop-cons a i 0 ha, drop-cons b i 0 hb, ne-eqb _ _ e) refl
+num-same : (a b : List Bool) → length a ≡ length b → num a ≡ num b → a ≡ b
+num-same a b l e = sym (bitsN-num a) ∙ bitsN-is (length a) (num a) b (sym l) (sym e)
 
-pub same-end : (a b : List ℕ) (i : ℕ) → length a ≤ i → length b ≤ i → same-bytes (drop i a) (drop i b) ≡ true
-same-end a b i ha hb = rw (drop-of-length-le a ha, drop-of-length-le b hb) refl
+pub halves-same : (a b : List Bool) → length a ≡ length b → halves a ≡ halves b → a ≡ b
+halves-same a b l e =
+    let first = num-same (take 64 a) (take 64 b) (length-take 64 a ∙ rw l refl ∙ sym (length-take 64 b)) (ap (λ (x : List ℕ). getD x 0 0) e) in
+    let second = num-same (drop 64 a) (drop 64 b) (length-drop 64 a ∙ rw l refl ∙ sym (length-drop 64 b)) (ap (λ (x : List ℕ). getD x 1 0) e) in
+    sym (take-append-drop 64 a) ∙ ap₂ _++_ first second ∙ take-append-drop 64 b
+
+-- two blocks that are the same but for two bits have the same numbers, and no others have
+pub without-same : (at : ℕ) (h k : List ℕ) → length h ≡ length k → at + 2 ≤ 8 * length h → without at h ≡ without at k
+    → over at (false ∷ false ∷ []) (bitsOf h) ≡ over at (false ∷ false ∷ []) (bitsOf k)
+without-same at h k l w e =
+    let two : List Bool = false ∷ false ∷ [] in
+    let n : length (bitsOf h) ≡ length (bitsOf k) = omega (arith, length-bitsOf h, length-bitsOf k) in
+    halves-same (over at two (bitsOf h)) (over at two (bitsOf k))
+    (length-over at two (bitsOf h) (omega (arith, length-bitsOf h)) ∙ n ∙ sym (length-over at two (bitsOf k) (omega (arith, length-bitsOf k)))) e
+
+and-end : (d : Bool) → d && true ≡ d
+and-end true = refl
+and-end false = refl
+
+-- of two each, the first and the second
+pub same-two : (a b : List ℕ) → length a ≡ 2 → length b ≡ 2 → same-numbers a b ≡ eqb (getD a 0 0) (getD b 0 0) && eqb (getD a 1 0) (getD b 1 0)
+same-two (x ∷ y ∷ []) (u ∷ v ∷ []) h k = ap (_&&_ (eqb x u)) (and-end (eqb y v))
+same-two [] b h k = absurd (omega arith)
+same-two (x ∷ []) b h k = absurd (omega arith)
+same-two (x ∷ y ∷ z ∷ zs) b h k = absurd (omega arith)
+same-two (x ∷ y ∷ []) [] h k = absurd (omega arith)
+same-two (x ∷ y ∷ []) (u ∷ []) h k = absurd (omega arith)
+same-two (x ∷ y ∷ []) (u ∷ v ∷ w ∷ ws) h k = absurd (omega arith)
 
 -- ---- a block with two bits cleared
 
-pub length-without : (at : ℕ) (h : List ℕ) → length (without at h) ≡ 16
-length-without at h = length-bytesN 16 (over at (false ∷ false ∷ []) (bitsOf h))
+-- what the code makes of two fields side by side
+pub side-by-side : (j k x y : ℕ) → x < 2 ^ j → y < 2 ^ k → j + k ≤ 64 → bitOr (x * 2 ^ k % 2 ^ 64) y ≡ x * 2 ^ k + y
+side-by-side j k x y hx hy h = rw (shl-exact j k 64 hx h, or-shifted x k y hy) refl
 
--- two bits of a block cleared
-pub two-cleared : (at : ℕ) (old new : List ℕ) → AllBytes new → length old ≡ 16 → at ≤ 126 → bitsOf new ≡ over at (bitsN 2 0) (bitsOf old) → new ≡ without at old
-two-cleared at old new hn l h e =
-    let two : List Bool = false ∷ false ∷ [] in
-    let lb : length (bitsOf old) ≡ 128 = omega (arith, length-bitsOf old) in
-    bytes-are 16 new (over at two (bitsOf old)) hn (length-over at two (bitsOf old) (omega arith) ∙ lb) (e ∙ rw (bitsN-zero 2) refl)
+-- two zeros before a string count nothing
+zeros-first : (b : List Bool) → num (false ∷ false ∷ b) ≡ num b
+unfolding num bit
+zeros-first b = omega arith
 
--- a block copied over another has its bits
-pub block-copied : (block old new : List ℕ) → length block ≡ 16 → length old ≡ 16 → bitsOf new ≡ over 0 (take 128 (bitsOf block)) (bitsOf old)
-    → bitsOf new ≡ bitsOf block
-block-copied block old new l m e =
-    let lb : length (bitsOf block) ≡ 128 = omega (arith, length-bitsOf block) in
-    e ∙ rw (take-all 128 (bitsOf block) (omega arith)) (over-all (bitsOf block) (bitsOf old) (omega (arith, length-bitsOf old)))
+module _ (at : ℕ) (b : List Bool) (l : length b ≡ 128) (h : at ≤ 62) where
+  abbrev two : List Bool
+  two = false ∷ false ∷ []
+
+  -- the first half: what stands before the two bits, and what stands after them
+  pub first-half : num (take 64 (over at two b)) ≡ field 0 at b * 2 ^ (64 - at) + field (at + 2) (62 - at) b
+  unfolding over
+  first-half =
+      let f = take 64 b in
+      let y = drop (at + 2) f in
+      let ly : length (false ∷ false ∷ y) ≡ 64 - at = omega (arith, length-drop (at + 2) f, length-take-le 64 b (omega arith)) in
+      let s : 64 ≡ (at + 2) + (62 - at) = omega arith in
+      let ey : y ≡ take (62 - at) (drop (at + 2) b) = ap (λ (n : ℕ). drop (at + 2) (take n b)) s ∙ drop-of-take (at + 2) (62 - at) b in
+      ap num (take-over 64 at two b (omega arith) (omega arith))
+      ∙ num-append (take at f) (false ∷ false ∷ y)
+      ∙ rw (take-take at 64 b (omega arith), ly, zeros-first y, ey) refl
+
+  -- the second half, as two fields
+  pub second-half : num (drop 64 (over at two b)) ≡ field 64 32 b * 2 ^ 32 + field 96 32 b
+  second-half =
+      let d = drop 64 b in
+      let ld : length d ≡ 64 = omega (arith, length-drop 64 b) in
+      ap num (over-drop 64 at two b (omega arith) (omega arith))
+      ∙ num-cut d 32 32 (sym ld)
+      ∙ rw (drop-drop 32 64 b, take-all 32 (drop 96 b) (omega (arith, length-drop 96 b))) refl

@@ -4,7 +4,7 @@ use mathlib.Core.List.{List, [], _∷_, _++_}
 use Prim.Native.Nat.{ℕ, _+_, _-_, _/_}
 use lib.Dec.{eqb}
 use lib.ListN.{length, take, drop, replicate}
-use Rattle.bits.specs.Bits.{bitsOf, bytesN, over}
+use Rattle.bits.specs.Bits.{num, bitsOf, bytesN, over}
 
 -- The store that holds these bits.
 unfoldable pub storeOf : List Bool → List ℕ
@@ -26,13 +26,17 @@ handed m old = messageBytes m ++ drop (length (messageBytes m)) old
 abbrev pub firstOver : ℕ → List ℕ → List ℕ → List ℕ
 firstOver n store old = take ((n + 7) / 8) store ++ drop ((n + 7) / 8) old
 
--- A block of 16 bytes with the two bits from bit `at` on zero.
-abbrev pub without : ℕ → List ℕ → List ℕ
-without at h = bytesN 16 (over at (false ∷ false ∷ []) (bitsOf h))
+-- A string of 128 bits as two numbers: its first 64 bits and the others.
+abbrev pub halves : List Bool → List ℕ
+halves b = num (take 64 b) ∷ num (drop 64 b) ∷ []
 
--- The same bytes.
-abbrev pub same-bytes : List ℕ → List ℕ → Bool
-same-bytes [] [] = true
-same-bytes [] (y ∷ ys) = false
-same-bytes (x ∷ xs) [] = false
-same-bytes (x ∷ xs) (y ∷ ys) = eqb x y && same-bytes xs ys
+-- A block of 16 bytes with the two bits from bit `at` on zero, as two numbers.
+abbrev pub without : ℕ → List ℕ → List ℕ
+without at h = halves (over at (false ∷ false ∷ []) (bitsOf h))
+
+-- The same numbers.
+abbrev pub same-numbers : List ℕ → List ℕ → Bool
+same-numbers [] [] = true
+same-numbers [] (y ∷ ys) = false
+same-numbers (x ∷ xs) [] = false
+same-numbers (x ∷ xs) (y ∷ ys) = eqb x y && same-numbers xs ys

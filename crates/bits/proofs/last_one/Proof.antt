@@ -1,6 +1,6 @@
 use mathlib.Core.Path.{_≡_, refl}
 use mathlib.Core.Option.{none}
-use Prim.Native.Nat.{_-_, _≤_}
+use Prim.Native.Nat.{_+_, _-_, _≤_}
 use native.Mathlib.Omega.{arith}
 use borrow.Author.Needs.{needs}
 use lib.Seq.{slice, slice-empty}
@@ -24,15 +24,16 @@ loop-holds c = (omega arith, omega arith, rw (slice-empty (c .before .args .to) 
 sub-i : tie.Need-sub-i Inv-loop μ-loop
 sub-i c = omega arith
 
-get-requires : tie.Need-get-requires Inv-loop μ-loop
-get-requires c κs = search needs
+get-in-byte-requires : tie.Need-get-in-byte-requires Inv-loop μ-loop
+get-in-byte-requires c κs = search needs
 
 returns : tie.Need-returns Inv-loop μ-loop
 returns c =
     let a = c .before .before .before .before .before .args in
     let l = c .before .before .before .loop in
+    let e : l .i - 1 + 1 - 1 ≡ l .i - 1 = omega arith in
     last-found (bitsOf (a .s .now)) (a .from) (a .to) (l .i) (l .i - 1) (omega arith) (omega arith) (omega arith)
-    (omega (arith, length-bitsOf (a .s .now))) (l .inv .2) (rw (c .before .get .ensures .is) at (c .if1 .taken))
+    (omega (arith, length-bitsOf (a .s .now))) (l .inv .2) (rw (c .before .get-in-byte .ensures .is, e) at (c .if1 .taken))
 
 loop-less : tie.Need-loop-less Inv-loop μ-loop
 loop-less c = omega arith
@@ -40,11 +41,12 @@ loop-less c = omega arith
 loop-again : tie.Need-loop-again Inv-loop μ-loop
 loop-again c =
     let a = c .before .before .before .before .before .args in
-    let l = c .before .before .before .loop in (
+    let l = c .before .before .before .loop in
+    let e : l .i - 1 + 1 - 1 ≡ l .i - 1 = omega arith in (
       omega arith,
       omega arith,
       last-more (bitsOf (a .s .now)) (a .from) (a .to) (l .i) (l .i - 1) (omega arith) (omega arith) (omega arith)
-          (omega (arith, length-bitsOf (a .s .now))) (l .inv .2) (rw (c .before .get .ensures .is) at (c .if1 .left)),
+          (omega (arith, length-bitsOf (a .s .now))) (l .inv .2) (rw (c .before .get-in-byte .ensures .is, e) at (c .if1 .left)),
     )
 
 returns-2 : tie.Need-returns-2 Inv-loop μ-loop
@@ -57,4 +59,4 @@ returns-2 c =
 pub last-one-spec : {M : Type 1} → statement M
 last-one-spec =
     tie.close
-    (tie.spec Inv-loop μ-loop loop-holds sub-i get-requires returns loop-less loop-again returns-2)
+    (tie.spec Inv-loop μ-loop loop-holds sub-i get-in-byte-requires returns loop-less loop-again returns-2)

@@ -2,7 +2,6 @@ use mathlib.Core.Path.{_≡_, refl, _∙_}
 use Prim.Native.Nat.{_+_, _-_, _/_, _≤_}
 use native.Mathlib.Nat.{zero-add}
 use native.Mathlib.Omega.{arith}
-use borrow.Author.Needs.{needs}
 use lib.ListN.{length, getD, length-set}
 use lib.Seq.{paste, paste-zero}
 use Rattle.store.proofs.Messages.{paste-more}
@@ -10,20 +9,19 @@ use Rattle.store.proofs.hand_over.Statement.{statement}
 use Rattle.store.proofs.hand_over.Tie as tie
 
 abbrev Inv-loop : tie.InvT-loop
-Inv-loop n message₀ store whole i₀ message i =
-    (i ≤ whole) × (length store ≡ 512) × (length message ≡ length message₀) × (message ≡ paste message₀ 0 store i)
+Inv-loop store n message₀ whole i₀ message i = (i ≤ whole) × (length message ≡ length message₀) × (message ≡ paste message₀ 0 store i)
 
 abbrev μ-loop : tie.MeasureT-loop
-μ-loop n message₀ store whole i₀ message i = 512 - i
+μ-loop store n message₀ whole i₀ message i = 512 - i
 
 add-whole : tie.Need-add-whole Inv-loop μ-loop
 add-whole c = omega arith
 
 loop-holds : tie.Need-loop-holds Inv-loop μ-loop
-loop-holds c = (omega arith, search needs, refl, paste-zero (c .args .message .now) 0 (c .args .t1))
+loop-holds c = (omega arith, refl, paste-zero (c .args .message .now) 0 (c .args .store .now))
 
-array-read-message : tie.Need-array-read-message Inv-loop μ-loop
-array-read-message c = omega arith
+shared-slice-read-message : tie.Need-shared-slice-read-message Inv-loop μ-loop
+shared-slice-read-message c = omega arith
 
 slice-write-message : tie.Need-slice-write-message Inv-loop μ-loop
 slice-write-message c = omega arith
@@ -36,12 +34,11 @@ loop-less c = omega arith
 
 loop-again : tie.Need-loop-again Inv-loop μ-loop
 loop-again c =
-    let a = c .before .before .args in
-    let l = c .before .loop in (
+    let a = c .before .before .before .args in
+    let l = c .before .before .loop in (
       omega arith,
-      omega arith,
-      omega (arith, length-set (l .message) (l .i) (getD (a .t1) (l .i) 0)),
-      rw (l .inv .3) (paste-more (a .message .now) (a .t1) (l .i) (omega arith) (omega arith)),
+      omega (arith, length-set (l .message) (l .i) (getD (a .store .now) (l .i) 0)),
+      rw (l .inv .2) (paste-more (a .message .now) (a .store .now) (l .i) (omega arith) (omega arith)),
     )
 
 same-length : tie.Need-same-length Inv-loop μ-loop
@@ -52,7 +49,7 @@ returns c =
     let a = c .before .before .args in
     let i = c .before .loop .i in
     let q : i ≡ (a .n + 7) / 8 = omega arith in
-    c .before .loop .inv .3 ∙ rw (q, zero-add ((a .n + 7) / 8)) refl
+    c .before .loop .inv .2 ∙ rw (q, zero-add ((a .n + 7) / 8)) refl
 
 pub hand-over-spec : {M : Type 1} → statement M
 hand-over-spec =
@@ -62,7 +59,7 @@ hand-over-spec =
     μ-loop
     add-whole
     loop-holds
-    array-read-message
+    shared-slice-read-message
     slice-write-message
     add-i
     loop-less

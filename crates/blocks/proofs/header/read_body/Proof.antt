@@ -12,31 +12,37 @@ use borrow.Author.Needs.{needs}
 use Rattle.blocks.proofs.header.read_body.Statement.{statement}
 use Rattle.blocks.proofs.header.read_body.Tie as tie
 
+refused-requires : tie.Need-refused-requires
+refused-requires c κs = search needs
+
+returns : tie.Need-returns
+returns c = absurd (omega arith)
+
 body-of-requires : tie.Need-body-of-requires
 body-of-requires c κs = search needs
 
 body-rules-requires : tie.Need-body-rules-requires
 body-rules-requires c κs = search needs
 
-refused-requires : tie.Need-refused-requires
-refused-requires c κs = search needs
+refused-requires-2 : tie.Need-refused-requires-2
+refused-requires-2 c κs = search needs
 
-returns : tie.Need-returns
-returns c =
-    let a = c .before .before .before .before .before .args in
-    c .refused .ensures ∙ body-refused (a .sync) (bitsOf (a .h .now)) (c .before .before .before .body-of .ensures) (c .before .before .body-rules .ensures) (c .before .if1 .taken)
+returns-2 : tie.Need-returns-2
+returns-2 c =
+    let a = c .before .before .before .before .before .before .args in
+    c .refused2 .ensures ∙ body-refused (a .sync) (bitsOf (a .h .now)) (c .before .before .before .body-of .ensures) (c .before .before .body-rules .ensures) (c .before .if2 .taken)
 
 -- what the rules have shown
-passed : (c : tie.Else1) → Held (bitsOf (c .before .before .before .before .args .h .now)) (c .before .before .body-of .result)
-passed c = held (bitsOf (c .before .before .before .before .args .h .now)) (c .before .before .body-of .ensures) (sym (c .before .body-rules .ensures) ∙ c .if1 .left)
+passed : (c : tie.Else2) → Held (bitsOf (c .before .before .before .before .before .args .h .now)) (c .before .before .body-of .result)
+passed c = held (bitsOf (c .before .before .before .before .before .args .h .now)) (c .before .before .body-of .ensures) (sym (c .before .body-rules .ensures) ∙ c .if2 .left)
 
 -- where the message ends
 ends : (c : tie.After-known-told) → let e = c .before .before .before .before .before .before .body-of .result in
-    let o = messageOf e (bitsOf (c .before .before .before .before .before .before .before .before .args .h .now)) in
+    let o = messageOf e (bitsOf (c .before .before .before .before .before .before .before .before .before .args .h .now)) in
     (isThere o ≡ true) × (c .before .end .given .0 .0 ≡ e .first + length (bitsIn o))
 ends c =
     let e = c .before .before .before .before .before .before .body-of .result in
-    found-some (e .first) (c .before .end .given .0 .0) (messageOf e (bitsOf (c .before .before .before .before .before .before .before .before .args .h .now))) (sym (c .before .before .before .sdu-end .ensures) ∙ c .before .end .given .1)
+    found-some (e .first) (c .before .end .given .0 .0) (messageOf e (bitsOf (c .before .before .before .before .before .before .before .before .before .args .h .now))) (sym (c .before .before .before .sdu-end .ensures) ∙ c .before .end .given .1)
 
 sdu-end-requires : tie.Need-sdu-end-requires
 sdu-end-requires c κs = let k = passed c in omega arith
@@ -47,16 +53,16 @@ enum-known-end c = search needs
 enum-told : tie.Need-enum-told
 enum-told c = search needs
 
-refused-requires-2 : tie.Need-refused-requires-2
-refused-requires-2 c κs = search needs
+refused-requires-3 : tie.Need-refused-requires-3
+refused-requires-3 c κs = search needs
 
-returns-2 : tie.Need-returns-2
-returns-2 c =
-    let a = c .before .before .before .before .before .before .before .before .args in
+returns-3 : tie.Need-returns-3
+returns-3 c =
+    let a = c .before .before .before .before .before .before .before .before .before .args in
     let e = c .before .before .before .before .before .before .body-of .result in
     let b = bitsOf (a .h .now) in
-    c .refused2 .ensures
-    ∙ body-eleven (a .sync) b (c .before .before .before .before .before .before .body-of .ensures) (sym (c .before .before .before .before .before .body-rules .ensures) ∙ c .before .before .before .before .if1 .left)
+    c .refused3 .ensures
+    ∙ body-eleven (a .sync) b (c .before .before .before .before .before .before .body-of .ensures) (sym (c .before .before .before .before .before .body-rules .ensures) ∙ c .before .before .before .before .if2 .left)
     (found-nothing (e .first) (messageOf e b) (sym (c .before .before .before .sdu-end .ensures) ∙ c .before .enum-told .given .1))
 
 sub-get : tie.Need-sub-get
@@ -68,32 +74,34 @@ get-requires c κs = let k = passed (c .before .before .before .before .before) 
 cast-t13 : tie.Need-cast-t13
 cast-t13 c = let k = passed (c .before .before .before .before .before .before .before .before .before) in omega arith
 
-sub-t12 : tie.Need-sub-t12
-sub-t12 c = omega (arith, ends (c .before .before .before .before .before .before))
+sub-t10 : tie.Need-sub-t10
+sub-t10 c = omega (arith, ends (c .before .before .before .before .before .before))
 
-returns-3 : tie.Need-returns-3
-returns-3 c =
-    let a = c .before .before .before .before .before .before .before .before .before .before .before .before .before .before .args in
+returns-4 : tie.Need-returns-4
+returns-4 c =
+    let a = c .before .before .before .before .before .before .before .before .before .before .before .before .before .before .before .args in
     let e = c .before .before .before .before .before .before .before .before .before .before .before .before .body-of .result in
     let m = ends (c .before .before .before .before .before .before) in
-    body-answer (a .sync) (bitsOf (a .h .now)) (c .before .before .before .before .before .before .before .before .before .before .before .before .body-of .ensures) (sym (c .before .before .before .before .before .before .before .before .before .before .before .body-rules .ensures) ∙ c .before .before .before .before .before .before .before .before .before .before .if1 .left)
+    body-answer (a .sync) (bitsOf (a .h .now)) (c .before .before .before .before .before .before .before .before .before .before .before .before .body-of .ensures) (sym (c .before .before .before .before .before .before .before .before .before .before .before .body-rules .ensures) ∙ c .before .before .before .before .before .before .before .before .before .before .if2 .left)
     (c .before .before .before .before .get .result) (c .before .before .before .before .before .before .before .end .given .0 .0 - e .first) (c .before .before .before .before .get .ensures .is) (m .0) (omega arith)
 
 pub read-body-spec : {M : Type 1} → statement M
 read-body-spec =
     tie.close
     (tie.spec
-    body-of-requires
-    body-rules-requires
     refused-requires
     returns
+    body-of-requires
+    body-rules-requires
+    refused-requires-2
+    returns-2
     sdu-end-requires
     enum-known-end
     enum-told
-    refused-requires-2
-    returns-2
+    refused-requires-3
+    returns-3
     sub-get
     get-requires
     cast-t13
-    sub-t12
-    returns-3)
+    sub-t10
+    returns-4)

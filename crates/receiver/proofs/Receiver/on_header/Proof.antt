@@ -1,76 +1,68 @@
-use Rattle.receiver.specs.Taken.{headerTo, headerOver}
 use mathlib.Core.Path.{refl, sym}
 use native.Mathlib.Omega.{arith}
 use borrow.Author.Tests.{eq-eqb, ne-eqb}
-use Rattle.receiver.proofs.Readings.{small-bits, in-header, header-held}
+use Rattle.receiver.specs.Verdicts.{headerFor}
+use Rattle.receiver.proofs.Readings.{header-held}
 use borrow.Author.Needs.{needs}
 use Rattle.receiver.proofs.Receiver.on_header.Statement.{statement}
 use Rattle.receiver.proofs.Receiver.on_header.Tie as tie
 
--- src/lib.rt:273:13
 read-reported-requires : tie.Need-read-reported-requires
 read-reported-requires c κs = search needs
 
--- src/lib.rt:275:13
+due-requires : tie.Need-due-requires
+due-requires c κs = search needs
+
 on-nothing-requires : tie.Need-on-nothing-requires
 on-nothing-requires c κs = search needs
 
--- src/lib.rt:275:13
 returns : tie.Need-returns
-unfolding headerTo headerOver
-returns c =
-    let x = c .before .before .before .read-reported in
-    let g = ne-eqb _ _ (c .before .if1 .taken) in
-    (rw (c .on-nothing .ensures, sym (x .ensures), g) refl, rw (sym (x .ensures), g) refl)
+unfolding headerFor
+returns c = rw (c .on-nothing .ensures, c .before .before .before .due .ensures, sym (c .before .before .before .before .read-reported .ensures), ne-eqb _ 0 (c .before .if1 .taken)) refl
 
--- src/lib.rt:278:13
+meant-requires : tie.Need-meant-requires
+meant-requires c κs = search needs
+
+without-two-requires : tie.Need-without-two-requires
+without-two-requires c κs = (header-held _ _ _ _ (c .before .before .before .before .before .before .before .read-reported .ensures) (c .before .before .before .before .if1 .left) .long, omega arith, omega arith)
+
+dropped-by-requires : tie.Need-dropped-by-requires
+dropped-by-requires c κs = search needs
+
 on-fragmented-requires : tie.Need-on-fragmented-requires
-on-fragmented-requires c κs =
-    let x = c .before .before .before .before .read-reported in
-    let w = header-held _ _ _ _ (x .ensures) (c .before .before .if1 .left) in
-    let k = c .if2 .taken in
-    let n = w .counted in
-    (omega arith, w .falls, small-bits w, in-header w, w .long)
+on-fragmented-requires c κs = search needs
 
--- src/lib.rt:278:13
 returns-2 : tie.Need-returns-2
-unfolding headerTo headerOver
-returns-2 c =
-    let x = c .before .before .before .before .before .read-reported in
-    let g = eq-eqb _ _ (c .before .before .before .if1 .left) in
-    let f = eq-eqb _ _ (c .before .if2 .taken) in
-    (rw (c .on-fragmented .ensures, sym (x .ensures), g, f) refl, rw (sym (x .ensures), g, f) refl)
+unfolding headerFor
+returns-2 c = rw (c .on-fragmented .ensures, c .before .dropped-by .ensures, c .before .before .without-two .ensures, c .before .before .before .before .before .meant .ensures, sym (c .before .before .before .before .before .before .before .before .before .before .read-reported .ensures), eq-eqb _ 0 (c .before .before .before .before .before .before .before .if1 .left), eq-eqb _ 1 (c .before .before .before .if2 .taken)) refl
 
--- src/lib.rt:280:9
+without-two-requires-2 : tie.Need-without-two-requires-2
+without-two-requires-2 c κs = (header-held _ _ _ _ (c .before .before .before .before .before .before .before .read-reported .ensures) (c .before .before .before .before .if1 .left) .long, omega arith, omega arith)
+
+copied-by-requires : tie.Need-copied-by-requires
+copied-by-requires c κs = search needs
+
 on-unfragmented-requires : tie.Need-on-unfragmented-requires
-on-unfragmented-requires c κs =
-    let x = c .before .before .before .before .before .read-reported in
-    let w = header-held _ _ _ _ (x .ensures) (c .before .before .before .if1 .left) in
-    (w .falls, small-bits w, in-header w, w .long, c .before .before .before .before .before .before .before .before .before .pre)
+on-unfragmented-requires c κs = search needs
 
--- src/lib.rt:261:5
-same-length : tie.Need-same-length
-same-length c = search needs
-
--- src/lib.rt:261:5
 returns-3 : tie.Need-returns-3
-unfolding headerTo headerOver
-returns-3 c =
-    let x = c .before .before .before .before .before .before .before .before .read-reported in
-    let g = eq-eqb _ _ (c .before .before .before .before .before .before .if1 .left) in
-    let f = ne-eqb _ _ (c .before .before .before .before .if2 .left) in
-    let y = c .before .before .on-unfragmented .ensures in
-    (rw (sym (x .ensures), g, f) (y .0), rw (sym (x .ensures), g, f) (y .1))
+unfolding headerFor
+returns-3 c = rw (c .on-unfragmented .ensures, c .before .copied-by .ensures, c .before .before .without-two2 .ensures, c .before .before .before .before .before .meant .ensures, c .before .before .before .before .before .before .before .before .before .due .ensures, sym (c .before .before .before .before .before .before .before .before .before .before .read-reported .ensures), eq-eqb _ 0 (c .before .before .before .before .before .before .before .if1 .left), ne-eqb _ 1 (c .before .before .before .if2 .left)) refl
 
 pub on-header-spec : {M : Type 1} → statement M
 on-header-spec =
     tie.close
     (tie.spec
     read-reported-requires
+    due-requires
     on-nothing-requires
     returns
+    meant-requires
+    without-two-requires
+    dropped-by-requires
     on-fragmented-requires
     returns-2
+    without-two-requires-2
+    copied-by-requires
     on-unfragmented-requires
-    same-length
     returns-3)

@@ -1,0 +1,106 @@
+/*
+ * One set of names for the calls of the proved library (-DLIBRARY) and of the peers. Each macro
+ * is the call as its own header has it, and leaves the answer where that header leaves it.
+ */
+#ifndef CALLS_H
+#define CALLS_H
+
+#define SCH_S 8
+#define SCH_H 16
+#define SCH_F 34
+#define ROOM 512
+
+#ifdef LIBRARY
+
+#include "pierstrand.h"
+
+typedef struct {
+	uint8_t frame;
+	uint8_t slot;
+	uint8_t kind;
+	const uint8_t *blocks;
+	size_t length;
+} Report;
+
+typedef struct pierstrand_sync Sync;
+typedef struct pierstrand_fields Fields;
+typedef struct pierstrand_fresh Fresh;
+typedef struct pierstrand_answer Answer;
+typedef struct pierstrand_built Built;
+typedef struct pierstrand_header Header;
+typedef struct pierstrand_continuation Block;
+typedef struct pierstrand_due Due;
+
+#define DESTINATION destination
+#define ADDRESS_TYPE kind
+#define HEADER_OF(header) (header)
+#define BLOCK_OF(block) (block)
+
+#define FRESH(unit, individual, group, mni) ((unit) = pierstrand_fresh(individual, group, mni))
+#define HEAR(answer, unit, report, message, room)                                               \
+	((answer) = pierstrand_hear(&(unit).receiver, (report)->frame, (report)->slot,          \
+				    (report)->kind, (report)->blocks, (report)->length,         \
+				    message, room))
+#define BUILD(built, sync, countdown, fields, n, message, length, out, room)                    \
+	((built) = pierstrand_build(*(sync), countdown, *(fields), n, message, length, out, room))
+#define READ_HEADER(header, sch_s, s_length, sch_h, h_length)                                   \
+	((header) = pierstrand_read_header(sch_s, s_length, sch_h, h_length))
+#define READ_BLOCK(block, sch_f, length) ((block) = pierstrand_read_continuation(sch_f, length))
+#define DUE(due, frame, countdown, block)                                                       \
+	((due) = pierstrand_due_frame(frame, countdown, block))
+
+#else
+
+#include "plain/pierstrand_plain.h"
+
+typedef struct dm_report Report;
+typedef struct dm_sync Sync;
+typedef struct dm_fields Fields;
+typedef struct dm_answer Answer;
+
+typedef struct {
+	uint8_t fault;
+	struct dm_receiver receiver;
+} Fresh;
+
+typedef struct {
+	uint8_t fault;
+	uint8_t blocks;
+} Built;
+
+typedef struct {
+	uint8_t fault;
+	struct dm_header header;
+} Header;
+
+typedef struct {
+	uint8_t fault;
+	struct dm_block block;
+} Block;
+
+typedef struct {
+	uint8_t fault;
+	uint8_t frame;
+} Due;
+
+#define DESTINATION dest
+#define ADDRESS_TYPE type
+#define HEADER_OF(found) ((found).header)
+#define BLOCK_OF(found) ((found).block)
+
+#define FRESH(unit, individual, group, mni)                                                     \
+	((unit).fault = dm_fresh(&(unit).receiver, individual, group, mni))
+#define HEAR(answer, unit, report, message, room)                                               \
+	dm_hear(&(unit).receiver, report, message, room, &(answer))
+#define BUILD(built, sync, countdown, fields, n, message, length, out, room)                    \
+	((built).fault = dm_build(sync, countdown, fields, n, message, length, out, room,       \
+				  &(built).blocks))
+#define READ_HEADER(found, sch_s, s_length, sch_h, h_length)                                    \
+	((found).fault = dm_read_header(sch_s, s_length, sch_h, h_length, &(found).header))
+#define READ_BLOCK(found, sch_f, length)                                                        \
+	((found).fault = dm_read_continuation(sch_f, length, &(found).block))
+#define DUE(due, x, countdown, i) ((due).fault = dm_layout(x, countdown, i, &(due).frame))
+
+#endif
+
+#endif

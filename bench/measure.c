@@ -1,0 +1,720 @@
+/*
+ * measure check          every case, a line each: its name, the calls of a pass, the deepest stack
+ *                        of a call, a sum over all answers and all written bytes, and of a log the
+ *                        silent reports, the headers and the blocks. Ends with 1 where an answer is
+ *                        not the expected one
+ * measure count CASE N   N passes of a case, for a counter of instructions
+ *
+ * Compiled against the proved library and against each peer (calls.h). What the calls take is made
+ * before the loop that is counted, with the implementation's own builds: equal sums tell that all
+ * implementations were given, and gave, the same.
+ */
+#include "calls.h"
+
+#include <inttypes.h>
+#include <stdio.h>
+#include <stdlib.h>
+#include <string.h>
+
+#define BLOCKS (SCH_S + SCH_H + 15 * SCH_F)
+
+enum { SILENCE = 1, HEADER, BLOCK };
+enum { NOTHING, UNFRAGMENTED, JOINED, OPENED, KEPT, COPY };
+
+#define FRAMES 18
+#define SLOTS (2 * FRAMES)
+#define MOST_REPORTS (4 * SLOTS)
+
+/* Message bits in a header, in one that blocks follow, in a block, and in all together. */
+#define SHORT 21
+#define INSIDE 17
+#define FULL 264
+#define LARGEST (INSIDE + 15 * FULL)
+
+#define INDIVIDUAL 0x4a1f03
+#define GROUP 0x90c201
+#define OTHER 0x33e410
+#define MNI 0x2a5b11
+
+#define PAINT 0xa5
+#define PAINTED 16384
+
+/* What a report is to come to, and the message that it is to hand over. */
+struct expected {
+	uint8_t outcome;
+	uint8_t dropped;
+	uint8_t fault;
+	unsigned bits;
+	const uint8_t *message;
+};
+
+/* A log of whole multiframes, so that a pass goes on where the one before it ended. */
+static struct {
+	unsigned count;
+	Report reports[MOST_REPORTS];
+	uint8_t blocks[MOST_REPORTS][SCH_F];
+	struct expected wants[MOST_REPORTS];
+} slots;
+
+/* What a build takes, and the blocks that it is to write. */
+static struct {
+	Sync sync;
+	uint8_t countdown;
+	Fields fields;
+	unsigned n;
+	unsigned blocks;
+} given;
+
+/* What a read takes, and what it is to find. */
+static struct {
+	uint8_t bytes[SCH_F];
+	uint8_t fault;
+	unsigned bits;
+} lent;
+
+static uint8_t messages[8][ROOM]; /* the last is all 0 */
+static uint64_t sum;
+static size_t deepest;
+static volatile uint64_t used;
+
+static void fail(const char *what)
+{
+	fprintf(stderr, "measure: %s\n", what);
+	exit(1);
+}
+
+/* ---- what the calls take */
+
+static void make_messages(void)
+{
+	uint32_t v = 1;
+
+	for (unsigned k = 0; k < 7; k++)
+		for (unsigned i = 0; i < ROOM; i++) {
+			v = v * 1664525 + 1013904223;
+			messages[k][i] = v >> 24;
+		}
+}
+
+/* DM-SDS DATA with both addresses. */
+static Fields fields_to(uint32_t ssi)
+{
+	Fields f;
+
+	memset(&f, 0, sizeof f);
+	f.DESTINATION.ssi = ssi;
+	f.source.ssi = OTHER;
+	f.mni = MNI;
+	f.message = 23;
+	f.width = 8;
+	f.elements = 0xc5;
+	return f;
+}
+
+static Sync sync_at(unsigned frame, unsigned slot)
+{
+	Sync sync;
+
+	memset(&sync, 0, sizeof sync);
+	sync.system = 11;
+	sync.usage = 1;
+	sync.slot = slot - 1;
+	sync.frame = frame;
+	return sync;
+}
+
+/* The blocks of a message whose header is the one of place i; how many follow it. */
+static unsigned blocks_at(uint8_t *out, unsigned i, unsigned countdown, uint32_t to, unsigned n,
+			  const uint8_t *message)
+{
+	Sync sync = sync_at(i / 2 % FRAMES + 1, i % 2 ? 3 : 1);
+	Fields fields = fields_to(to);
+	Built built;
+
+	BUILD(built, &sync, countdown, &fields, n, message, ROOM, out, BLOCKS);
+	if (built.fault)
+		fail("a build for a log was refused");
+	return built.blocks;
+}
+
+/* Multiframes in which nothing is heard. */
+static void silence(unsigned multiframes)
+{
+	slots.count = multiframes * SLOTS;
+	for (unsigned i = 0; i < slots.count; i++) {
+		Report report = {i / 2 % FRAMES + 1, i % 2 ? 3 : 1, SILENCE, slots.blocks[i], 0};
+
+		slots.reports[i] = report;
+	}
+}
+
+/* What is heard in place i, and what comes of it. */
+static void bring(unsigned i, unsigned kind, const uint8_t *bytes, unsigned outcome)
+{
+	slots.reports[i].kind = kind;
+	slots.reports[i].length = kind == HEADER ? SCH_S + SCH_H : SCH_F;
+	memcpy(slots.blocks[i], bytes, slots.reports[i].length);
+	slots.wants[i].outcome = outcome;
+}
+
+static void hand_over(unsigned i, unsigned outcome, unsigned n, const uint8_t *message)
+{
+	struct expected want = {outcome, 0, 0, n, message};
+
+	slots.wants[i] = want;
+}
+
+static void nothing_of(unsigned i, unsigned fault)
+{
+	struct expected want = {NOTHING, 0, fault, 0, NULL};
+
+	slots.wants[i] = want;
+}
+
+/* Changes byte `at` of what is heard in place i: nothing comes of it then but a fault. */
+static void damage(unsigned i, unsigned at, uint8_t clear, uint8_t set, unsigned fault)
+{
+	slots.blocks[i][at] = (slots.blocks[i][at] & ~clear) | set;
+	nothing_of(i, fault);
+}
+
+/* A message from the x-th frame on: its header in both slots of countdown + 1 frames, and each of
+   its blocks in slot 1 of its frame. */
+static void send(unsigned x, unsigned countdown, uint32_t to, unsigned n, const uint8_t *message)
+{
+	uint8_t out[BLOCKS];
+	unsigned first = 2 * x, i, blocks = 0, ours = to != OTHER;
+
+	for (i = first; i <= first + 2 * countdown + 1; i++) {
+		blocks = blocks_at(out, i, countdown - (i - first) / 2, to, n, message);
+		bring(i, HEADER, out, !ours ? NOTHING : blocks ? OPENED : COPY);
+	}
+	for (unsigned k = 0; k < blocks; k++, i += 2) {
+		Due due;
+
+		if (slots.reports[i].frame == FRAMES)
+			i += 2;
+		DUE(due, slots.reports[first].frame, countdown, k);
+		if (due.fault || due.frame != slots.reports[i].frame)
+			fail("a block is due in another frame");
+		bring(i, BLOCK, out + SCH_S + SCH_H + k * SCH_F, ours ? KEPT : NOTHING);
+	}
+	if (ours && blocks)
+		hand_over(i - 2, JOINED, n, message);
+	else if (ours)
+		hand_over(first, UNFRAGMENTED, n, message);
+}
+
+/* Other short headers than the slot before had, one in each slot. */
+static void short_headers(uint32_t to)
+{
+	uint8_t out[BLOCKS];
+
+	silence(1);
+	for (unsigned i = 0; i < slots.count; i++) {
+		blocks_at(out, i, 0, to, 16, messages[i % 7]);
+		bring(i, HEADER, out, NOTHING);
+		if (to != OTHER)
+			hand_over(i, UNFRAGMENTED, 16, messages[i % 7]);
+	}
+}
+
+static void make_nothing(void)
+{
+	silence(1);
+}
+
+static void make_run(void)
+{
+	silence(1);
+	send(0, 1, INDIVIDUAL, LARGEST, messages[0]);
+}
+
+static void make_short(void)
+{
+	short_headers(INDIVIDUAL);
+}
+
+static void make_others(void)
+{
+	short_headers(OTHER);
+}
+
+/* Four messages, eight headers each. */
+static void make_copies(void)
+{
+	silence(1);
+	for (unsigned k = 0; k < 4; k++)
+		send(4 * k + k / 2, 3, k % 2 ? GROUP : INDIVIDUAL, 16 + k, messages[k]);
+}
+
+/* In each slot a header or a block for this unit with one fault, every fault in turn. */
+static void make_faults(void)
+{
+	static const struct {
+		uint8_t kind, at, clear, set, fault;
+	} faults[] = {
+		{HEADER, 7, 0, 0x01, 2},          /* pad bit of SCH/S */
+		{HEADER, SCH_S + 15, 0, 0x01, 2}, /* pad bit of SCH/H */
+		{HEADER, 0, 0xf0, 0x90, 3},       /* system code 9 */
+		{HEADER, 0, 0, 0x04, 4},          /* SYNC PDU type 1 */
+		{HEADER, 0, 0, 0x01, 5},          /* communication type 1 */
+		{HEADER, 2, 0, 0x08, 6},          /* encryption state 1 */
+		{HEADER, 1, 0, 0x03, 7},          /* frame 24 or more */
+		{HEADER, SCH_S + 1, 0, 0x03, 8},  /* address type 3 */
+		{HEADER, SCH_S + 11, 0, 0x10, 9}, /* message type 31 */
+		{HEADER, SCH_S + 1, 0, 0x10, 10}, /* fragmented, slot count 0 */
+		{HEADER, SCH_S + 1, 0, 0x20, 11}, /* fill told of, the room is 0 */
+		{HEADER, 1, 0x0c, 0x04, 18},      /* slot 2 */
+		{BLOCK, 33, 0, 0x01, 2},          /* pad bit of SCH/F */
+		{BLOCK, 0, 0xc0, 0x80, 12},       /* PDU type 2 */
+		{BLOCK, 0, 0, 0x10, 11},          /* fill told of, the room is 0 */
+	};
+	uint8_t out[BLOCKS];
+
+	silence(1);
+	for (unsigned i = 0; i < slots.count; i++) {
+		unsigned k = i % (sizeof faults / sizeof faults[0]);
+		unsigned block = faults[k].kind == BLOCK;
+
+		blocks_at(out, i, 0, INDIVIDUAL, block ? INSIDE + FULL : SHORT, messages[7]);
+		bring(i, faults[k].kind, block ? out + SCH_S + SCH_H : out, NOTHING);
+		damage(i, faults[k].at, faults[k].clear, faults[k].set, faults[k].fault);
+	}
+}
+
+/* Reports that are refused. */
+static void make_refused(void)
+{
+	static const struct {
+		uint8_t frame, slot, kind, length, fault;
+	} refused[] = {
+		{0, 1, SILENCE, 0, 15}, {19, 1, HEADER, 24, 15}, {1, 2, BLOCK, 34, 16},
+		{1, 1, HEADER, 23, 1},  {1, 1, BLOCK, 35, 1},    {1, 1, 4, 0, 1},
+	};
+
+	for (unsigned i = 0; i < sizeof refused / sizeof refused[0]; i++) {
+		Report report = {refused[i].frame, refused[i].slot, refused[i].kind,
+				 slots.blocks[i], refused[i].length};
+
+		slots.reports[i] = report;
+		nothing_of(i, refused[i].fault);
+		slots.count = i + 1;
+	}
+}
+
+/* Four multiframes of a unit that others talk beside. */
+static void make_mixed(void)
+{
+	unsigned second = FRAMES, third = 2 * FRAMES, fourth = 3 * FRAMES, lost;
+
+	silence(4);
+	/* A short message and its copies, then one of three blocks. */
+	send(0, 3, INDIVIDUAL, SHORT, messages[0]);
+	send(5, 1, INDIVIDUAL, INSIDE + 2 * FULL + 100, messages[1]);
+
+	/* Two of others. A header of which slot 3 alone came through, and a damaged block. */
+	send(second, 3, OTHER, 16, messages[2]);
+	send(second + 5, 1, OTHER, INSIDE + 5 * FULL, messages[3]);
+	send(second + 13, 0, INDIVIDUAL, 17, messages[4]);
+	damage(2 * (second + 13), SCH_S + 15, 0, 0x02, 2);
+	hand_over(2 * (second + 13) + 1, UNFRAGMENTED, 17, messages[4]);
+	bring(2 * (second + 15), BLOCK, slots.blocks[2 * (second + 9)], NOTHING);
+	damage(2 * (second + 15), 0, 0xc0, 0, 12);
+
+	/* Eight blocks to the group, of which the fifth is not heard: the message is dropped. */
+	send(third, 3, GROUP, INSIDE + 8 * FULL - 50, messages[5]);
+	lost = 2 * (third + 8);
+	slots.reports[lost].kind = SILENCE;
+	slots.reports[lost].length = 0;
+	for (unsigned k = 0; k < 4; k++)
+		nothing_of(lost + 2 * k, 0);
+	slots.wants[lost].dropped = 1;
+
+	/* Four blocks past frame 18, a short message, and one whose slot 1 names another frame. */
+	send(third + 15, 0, INDIVIDUAL, INSIDE + 3 * FULL + 7, messages[6]);
+	send(fourth + 6, 1, INDIVIDUAL, 8, messages[0]);
+	send(fourth + 12, 0, INDIVIDUAL, 8, messages[1]);
+	damage(2 * (fourth + 12), 2, 0x20, 0, 18);
+	hand_over(2 * (fourth + 12) + 1, UNFRAGMENTED, 8, messages[1]);
+}
+
+static void make_build(unsigned n, unsigned blocks)
+{
+	given.sync = sync_at(7, 1);
+	given.countdown = 1;
+	given.fields = fields_to(INDIVIDUAL);
+	given.n = n;
+	given.blocks = blocks;
+}
+
+static void make_build_0(void)
+{
+	make_build(16, 0);
+}
+
+static void make_build_5(void)
+{
+	make_build(INSIDE + 4 * FULL + 120, 5);
+}
+
+static void make_build_15(void)
+{
+	make_build(LARGEST, 15);
+}
+
+/* A part of what a message of n bits builds to, from byte `from` on, and what is found in it. */
+static void make_part(unsigned n, unsigned from, unsigned length, unsigned bits)
+{
+	uint8_t out[BLOCKS];
+
+	blocks_at(out, 0, 1, INDIVIDUAL, n, messages[0]);
+	memcpy(lent.bytes, out + from, length);
+	lent.fault = 0;
+	lent.bits = bits;
+}
+
+static void make_header_fill(void)
+{
+	make_part(8, 0, SCH_S + SCH_H, 8);
+}
+
+static void make_header_fragmented(void)
+{
+	make_part(LARGEST, 0, SCH_S + SCH_H, INSIDE);
+}
+
+static void make_header_refused(void)
+{
+	make_part(SHORT, 0, SCH_S + SCH_H, 0);
+	lent.bytes[2] |= 0x10; /* encryption */
+	lent.fault = 6;
+}
+
+static void make_block_full(void)
+{
+	make_part(INSIDE + FULL, SCH_S + SCH_H, SCH_F, FULL);
+}
+
+static void make_block_fill(void)
+{
+	make_part(INSIDE + 10, SCH_S + SCH_H, SCH_F, 10);
+}
+
+static void make_none(void)
+{
+}
+
+/* ---- the loops that are counted */
+
+static void count_hear(unsigned passes)
+{
+	static uint8_t message[ROOM];
+	static Fresh unit;
+
+	FRESH(unit, INDIVIDUAL, GROUP, MNI);
+	while (passes--)
+		for (unsigned i = 0; i < slots.count; i++) {
+			Answer answer;
+
+			HEAR(answer, unit, &slots.reports[i], message, ROOM);
+			used += answer.outcome;
+		}
+}
+
+static void count_build(unsigned passes)
+{
+	static uint8_t out[BLOCKS];
+
+	while (passes--) {
+		Built built;
+
+		BUILD(built, &given.sync, given.countdown, &given.fields, given.n, messages[0],
+		      ROOM, out, BLOCKS);
+		used += built.blocks;
+	}
+}
+
+static void count_header(unsigned passes)
+{
+	while (passes--) {
+		Header header;
+
+		READ_HEADER(header, lent.bytes, SCH_S, lent.bytes + SCH_S, SCH_H);
+		used += HEADER_OF(header).bits;
+	}
+}
+
+static void count_block(unsigned passes)
+{
+	while (passes--) {
+		Block block;
+
+		READ_BLOCK(block, lent.bytes, SCH_F);
+		used += BLOCK_OF(block).bits;
+	}
+}
+
+static void count_due(unsigned passes)
+{
+	while (passes--)
+		for (unsigned x = 1; x <= FRAMES; x++)
+			for (unsigned i = 0; i < 15; i++) {
+				Due due;
+
+				DUE(due, x, i % 4, i);
+				used += due.frame;
+			}
+}
+
+static void count_fresh(unsigned passes)
+{
+	while (passes--) {
+		Fresh unit;
+
+		FRESH(unit, INDIVIDUAL, GROUP, MNI);
+		used += unit.fault;
+	}
+}
+
+/* ---- the same calls, with every answer looked at and every call on a painted stack */
+
+static inline uint8_t *stack_pointer(void)
+{
+	uint8_t *at;
+
+	__asm__ volatile("mov %%rsp, %0" : "=r"(at));
+	return at;
+}
+
+/* Paints the stack below a call, makes it, and notes how deep the paint was touched: by what the
+   call pushes, by its return address, and by all that it does. */
+#define ON_PAINT(call)                                                                          \
+	do {                                                                                    \
+		uint8_t *top_ = stack_pointer();                                                \
+		volatile uint8_t *at_ = top_ - PAINTED;                                         \
+                                                                                                \
+		while (at_ < top_)                                                              \
+			*at_++ = PAINT;                                                         \
+		call;                                                                           \
+		for (at_ = top_ - PAINTED; at_ < top_ && *at_ == PAINT;)                        \
+			at_++;                                                                  \
+		if ((size_t)(top_ - at_) > deepest)                                             \
+			deepest = top_ - at_;                                                   \
+	} while (0)
+
+/* FNV-1a. */
+static void add_byte(uint8_t byte)
+{
+	sum = (sum ^ byte) * UINT64_C(0x100000001b3);
+}
+
+static void add(uint64_t number)
+{
+	for (int i = 0; i < 8; i++)
+		add_byte(number >> 8 * i & 0xff);
+}
+
+static void add_bytes(const uint8_t *bytes, size_t length)
+{
+	add(length);
+	for (size_t i = 0; i < length; i++)
+		add_byte(bytes[i]);
+}
+
+static void add_fields(const Fields *f)
+{
+	add(f->DESTINATION.ADDRESS_TYPE);
+	add(f->DESTINATION.ssi);
+	add(f->source.ADDRESS_TYPE);
+	add(f->source.ssi);
+	add(f->mni);
+	add(f->message);
+	add(f->width);
+	add(f->elements);
+}
+
+/* The message is the expected one, its spare bits are 0, and nothing after it was written. */
+static int handed_over(const uint8_t *message, const struct expected *want)
+{
+	unsigned whole = want->bits / 8, spare = (8 - want->bits % 8) % 8, i = whole;
+
+	if (whole && memcmp(message, want->message, whole))
+		return 0;
+	if (spare && message[i++] != (want->message[whole] & 0xff << spare))
+		return 0;
+	while (i < ROOM)
+		if (message[i++] != PAINT)
+			return 0;
+	return 1;
+}
+
+static unsigned check_hear(void)
+{
+	static uint8_t message[ROOM];
+	static Fresh unit;
+
+	FRESH(unit, INDIVIDUAL, GROUP, MNI);
+	for (unsigned pass = 0; pass < 3; pass++)
+		for (unsigned i = 0; i < slots.count; i++) {
+			const struct expected *want = &slots.wants[i];
+			Answer answer;
+
+			memset(message, PAINT, sizeof message);
+			ON_PAINT(HEAR(answer, unit, &slots.reports[i], message, ROOM));
+			if (answer.outcome != want->outcome || answer.dropped != want->dropped ||
+			    answer.fault != want->fault || answer.bits != want->bits)
+				fail("a report came to something else than expected");
+			if (!handed_over(message, want))
+				fail("another message than expected was handed over");
+			add(answer.outcome);
+			add(answer.dropped);
+			add(answer.fault);
+			add(answer.bits);
+			add_fields(&answer.fields);
+			add_bytes(slots.reports[i].blocks, slots.reports[i].length);
+			add_bytes(message, ROOM);
+		}
+	return slots.count;
+}
+
+static unsigned check_build(void)
+{
+	static uint8_t out[BLOCKS];
+	Built built;
+
+	memset(out, PAINT, sizeof out);
+	ON_PAINT(BUILD(built, &given.sync, given.countdown, &given.fields, given.n, messages[0],
+		       ROOM, out, BLOCKS));
+	if (built.fault || built.blocks != given.blocks)
+		fail("a build answered something else than expected");
+	add(built.blocks);
+	add_bytes(out, BLOCKS);
+	return 1;
+}
+
+static unsigned check_header(void)
+{
+	Header header;
+
+	ON_PAINT(READ_HEADER(header, lent.bytes, SCH_S, lent.bytes + SCH_S, SCH_H));
+	if (header.fault != lent.fault || HEADER_OF(header).bits != lent.bits)
+		fail("a header was read otherwise than expected");
+	add(header.fault);
+	add(HEADER_OF(header).sync.system);
+	add(HEADER_OF(header).sync.usage);
+	add(HEADER_OF(header).sync.slot);
+	add(HEADER_OF(header).sync.frame);
+	add(HEADER_OF(header).fragmented);
+	add(HEADER_OF(header).count);
+	add(HEADER_OF(header).countdown);
+	add_fields(&HEADER_OF(header).fields);
+	add(HEADER_OF(header).first);
+	add(HEADER_OF(header).bits);
+	return 1;
+}
+
+static unsigned check_block(void)
+{
+	Block block;
+
+	ON_PAINT(READ_BLOCK(block, lent.bytes, SCH_F));
+	if (block.fault != lent.fault || BLOCK_OF(block).bits != lent.bits)
+		fail("a block was read otherwise than expected");
+	add(BLOCK_OF(block).last);
+	add(BLOCK_OF(block).first);
+	add(BLOCK_OF(block).bits);
+	return 1;
+}
+
+static unsigned check_due(void)
+{
+	unsigned calls = 0;
+
+	for (unsigned x = 1; x <= FRAMES; x++)
+		for (unsigned i = 0; i < 15; i++, calls++) {
+			Due due;
+
+			ON_PAINT(DUE(due, x, i % 4, i));
+			if (due.fault || due.frame < 1 || due.frame >= FRAMES)
+				fail("a frame is no block's");
+			add(due.frame);
+		}
+	return calls;
+}
+
+static unsigned check_fresh(void)
+{
+	Fresh unit;
+
+	ON_PAINT(FRESH(unit, INDIVIDUAL, GROUP, MNI));
+	if (unit.fault)
+		fail("a fresh receiver was refused");
+	return 1;
+}
+
+static const struct measured {
+	const char *name;
+	void (*make)(void);
+	void (*count)(unsigned passes);
+	unsigned (*check)(void);
+} cases[] = {
+	{"hear-mixed", make_mixed, count_hear, check_hear},
+	{"hear-nothing", make_nothing, count_hear, check_hear},
+	{"hear-run", make_run, count_hear, check_hear},
+	{"hear-short", make_short, count_hear, check_hear},
+	{"hear-copies", make_copies, count_hear, check_hear},
+	{"hear-others", make_others, count_hear, check_hear},
+	{"hear-faults", make_faults, count_hear, check_hear},
+	{"hear-refused", make_refused, count_hear, check_hear},
+	{"build-0", make_build_0, count_build, check_build},
+	{"build-5", make_build_5, count_build, check_build},
+	{"build-15", make_build_15, count_build, check_build},
+	{"header-fill", make_header_fill, count_header, check_header},
+	{"header-fragmented", make_header_fragmented, count_header, check_header},
+	{"header-refused", make_header_refused, count_header, check_header},
+	{"block-full", make_block_full, count_block, check_block},
+	{"block-fill", make_block_fill, count_block, check_block},
+	{"due-frame", make_none, count_due, check_due},
+	{"fresh", make_none, count_fresh, check_fresh},
+};
+
+#define CASES (sizeof cases / sizeof cases[0])
+
+static void check(const struct measured *c)
+{
+	unsigned calls, kinds[BLOCK + 1] = {0};
+
+	memset(&slots, 0, sizeof slots);
+	sum = UINT64_C(0xcbf29ce484222325);
+	deepest = 0;
+	used = 0;
+	c->make();
+	calls = c->check();
+	c->count(3);
+	add(used);
+	for (unsigned i = 0; i < slots.count; i++)
+		if (slots.reports[i].kind <= BLOCK)
+			kinds[slots.reports[i].kind]++;
+	printf("%s %u %zu %016" PRIx64 " %u %u %u\n", c->name, calls, deepest, sum,
+	       kinds[SILENCE], kinds[HEADER], kinds[BLOCK]);
+}
+
+int main(int argc, char **argv)
+{
+	make_messages();
+	if (argc == 2 && !strcmp(argv[1], "check")) {
+		for (size_t k = 0; k < CASES; k++)
+			check(&cases[k]);
+		return 0;
+	}
+	if (argc == 4 && !strcmp(argv[1], "count"))
+		for (size_t k = 0; k < CASES; k++)
+			if (!strcmp(argv[2], cases[k].name)) {
+				cases[k].make();
+				cases[k].count(strtoul(argv[3], NULL, 10));
+				return 0;
+			}
+	fprintf(stderr, "usage: %s check | count CASE PASSES\n", argv[0]);
+	return 2;
+}

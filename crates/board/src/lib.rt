@@ -1,0 +1,86 @@
+// The board's library: each public call under a name for C (include/pierstrand.h). What a call promises is what the Rattle function that it calls promises.
+ghost use mathlib.Core.Path.{_≡_};
+ghost use lib.ListN.{length};
+ghost use Rattle.blocks.specs.Continuation.{readContinuation};
+ghost use Rattle.blocks.specs.Header.{readHeader};
+ghost use Rattle.blocks.specs.Slots.{dueOf};
+ghost use Rattle.build.specs.Build.{buildOf, outOf};
+ghost use Rattle.receiver.specs.Held.{freshOf};
+ghost use Rattle.receiver.specs.Lent.{lent};
+ghost use Rattle.receiver.specs.Reached.{Reached, Hears};
+ghost use Rattle.board.specs.Board.{replied};
+use blocks::continuation::Continuation;
+use blocks::header::Fields;
+use blocks::header::Header;
+use blocks::slots::Due;
+use blocks::sync::Sync;
+use build::Built;
+use receiver::Fresh;
+use receiver::Receiver;
+use receiver::answer::Answer;
+
+// A fresh receiver, or the fault of its settings: `Receiver::fresh`.
+#[no_mangle]
+pub extern "C" fn pierstrand_fresh(individual: u32, group: u32, mni: u32) -> Fresh
+    ensures { λ r. ⌜ (r ≡ freshOf individual group mni) × Reached (r .receiver) ⌝ }
+{
+    Receiver::fresh(individual, group, mni)
+}
+
+// Hears a slot report in the receiver where it stands: `Receiver::hear`, and its receiver is stored.
+#[no_mangle]
+pub extern "C" fn pierstrand_hear(
+    r: &mut Receiver,
+    frame: u8,
+    slot: u8,
+    kind: u8,
+    blocks: &[u8],
+    message: &mut [u8],
+) -> Answer
+    requires { ⌜ Reached (now r) ⌝ }
+    ensures { λ a. ⌜ Reached (now (r .exit)) × Hears (now (r .entry)) (lent frame slot kind (now (blocks .entry))) (replied (now (r .exit)) a) (now (message .entry)) (now (message .exit)) ⌝ }
+{
+    let h = r.hear(frame, slot, kind, blocks, message);
+    *r = h.receiver;
+    h.answer
+}
+
+// Builds the blocks of the first `n` bits of a message: `build::build`.
+#[no_mangle]
+pub extern "C" fn pierstrand_build(
+    sync: Sync,
+    countdown: u8,
+    fields: Fields,
+    n: usize,
+    message: &[u8],
+    out: &mut [u8],
+) -> Built
+    ensures { λ r. ⌜ (r ≡ buildOf sync countdown fields n (length (now (message .entry))) (length (now (out .entry))))
+        × (now (out .exit) ≡ outOf sync countdown fields n (now (message .entry)) (now (out .entry))) ⌝ }
+{
+    build::build(sync, countdown, fields, n, message, out)
+}
+
+// Reads a header from its SCH/S and SCH/H: `read_header`.
+#[no_mangle]
+pub extern "C" fn pierstrand_read_header(s: &[u8], h: &[u8]) -> Header
+    ensures { λ r. ⌜ r ≡ readHeader (now (s .entry)) (now (h .entry)) ⌝ }
+{
+    blocks::header::read_header(s, h)
+}
+
+// Reads a continuation block from its SCH/F: `read_continuation`.
+#[no_mangle]
+pub extern "C" fn pierstrand_read_continuation(s: &[u8]) -> Continuation
+    ensures { λ r. ⌜ r ≡ readContinuation (now (s .entry)) ⌝ }
+{
+    blocks::continuation::read_continuation(s)
+}
+
+// The frame of block `i` of a message whose header stands in frame `x` with countdown `f`: `due_frame`.
+#[no_mangle]
+pub extern "C" fn pierstrand_due_frame(x: u8, f: u8, i: u8) -> Due
+    ensures { λ r. ⌜ r ≡ dueOf x f i ⌝ }
+{
+    blocks::slots::due_frame(x, f, i)
+}

@@ -1,0 +1,16 @@
+use mathlib.Core.Path.{refl}
+use borrow.Author.Tests.{eq-eqb, ne-eqb}
+use Rattle.receiver.proofs.skipped.Statement.{statement}
+use Rattle.receiver.proofs.skipped.Tie as tie
+
+returns : tie.Need-returns
+returns c = rw (ne-eqb _ 0 (c .if1 .taken)) refl
+
+returns-2 : tie.Need-returns-2
+returns-2 c = rw (eq-eqb _ 0 (c .before .if1 .left), eq-eqb _ 2 (c .if2 .taken)) refl
+
+returns-3 : tie.Need-returns-3
+returns-3 c = rw (eq-eqb _ 0 (c .before .if1 .left), ne-eqb _ 2 (c .if2 .left)) refl
+
+pub skipped-spec : {M : Type 1} → statement M
+skipped-spec = tie.close (tie.spec returns returns-2 returns-3)

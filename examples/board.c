@@ -1,0 +1,196 @@
+/*
+ * A unit's slot handler over Pierstrand, in plain C99. examples/run builds and runs it.
+ *
+ * slot_handler is the part to copy. The radio calls it once for every slot 1 and every slot 3, in
+ * their order, heard or not. All else stands in for the radio: it lays messages out over slots and
+ * reports these slots one by one.
+ *
+ * A line that starts with six numbers is one of a slot log, with some words after it: frame, slot,
+ * outcome, dropped, fault, bits (docs/READING-THE-LOG.md).
+ */
+#include <stdio.h>
+#include <string.h>
+
+#include "pierstrand.h"
+
+/* The unit: its own address, its group's, and its network. The sender is unit 7. */
+#define INDIVIDUAL 5001
+#define GROUP 8001
+#define MNI 901
+
+#define HEADER_BYTES (PIERSTRAND_SCH_S + PIERSTRAND_SCH_H)
+
+static struct pierstrand_receiver receiver;
+static uint8_t message[PIERSTRAND_MESSAGE];
+
+static void print_line(uint8_t frame, uint8_t slot, struct pierstrand_answer a)
+{
+	int width = printf("%u %u %u %u %u %zu", frame, slot, a.outcome, a.dropped, a.fault, a.bits);
+
+	printf("%*s", 16 - width, "");
+}
+
+static void slot_handler(uint8_t frame, uint8_t slot, uint8_t kind, const uint8_t *blocks, size_t length)
+{
+	struct pierstrand_answer answer =
+		pierstrand_hear(&receiver, frame, slot, kind, blocks, length, message, sizeof message);
+
+	print_line(frame, slot, answer);
+	switch (answer.outcome) {
+	case PIERSTRAND_UNFRAGMENTED:
+	case PIERSTRAND_JOINED: /* a whole message, in both cases: here to act on it */
+		printf("from %u: %.*s", answer.fields.source.ssi, (int)(answer.bits / 8), (const char *)message);
+		break;
+	case PIERSTRAND_OPENED:
+		printf("a longer message begins");
+		break;
+	case PIERSTRAND_KEPT:
+		printf("a block of it, kept");
+		break;
+	case PIERSTRAND_COPY:
+		printf("a copy, not handed over again");
+		break;
+	default: /* PIERSTRAND_NOTHING */
+		printf("%s", answer.fault != 0 ? "a fault: nothing was taken" : "nothing for this unit");
+	}
+	printf("%s\n", answer.dropped != 0 ? "; the message that was coming in is lost" : "");
+}
+
+/* What is on the air, by frame and slot. Kind 0: nothing. */
+static struct {
+	uint8_t kind;
+	uint8_t bytes[PIERSTRAND_SCH_F];
+} air[19][4];
+
+static void put(uint8_t frame, uint8_t slot, uint8_t kind, const uint8_t *bytes, size_t length)
+{
+	air[frame][slot].kind = kind;
+	memcpy(air[frame][slot].bytes, bytes, length);
+}
+
+/*
+ * Lays a text out from `frame` on. Its header goes into slots 1 and 3 of this frame and of
+ * `countdown` frames more, each a build of its own; each block goes into slot 1 of its due frame.
+ */
+static void lay_out(const char *text, uint8_t frame, uint8_t countdown)
+{
+	/* To this unit from unit 7, as DM-SDS DATA (23), whose elements have 8 bits. */
+	static const struct pierstrand_fields fields = {
+		.destination = {.kind = 0, .ssi = INDIVIDUAL},
+		.source = {.kind = 0, .ssi = 7},
+		.mni = MNI,
+		.message = 23,
+		.width = 8,
+		.elements = 0x92,
+	};
+	static uint8_t out[PIERSTRAND_BLOCKS];
+	size_t length = strlen(text);
+	struct pierstrand_built built = {0, 0};
+
+	printf("\n%zu characters, header in", length);
+	for (uint8_t gone = 0, at = frame; gone <= countdown; gone++, at = at % 18 + 1) {
+		for (uint8_t slot = 1; slot <= 3; slot += 2) {
+			struct pierstrand_sync sync = {
+				.system = 13,
+				.usage = 0,
+				.slot = slot - 1, /* as coded: 0 is slot 1, 2 is slot 3 */
+				.frame = at,
+			};
+
+			built = pierstrand_build(sync, countdown - gone, fields, 8 * length,
+						 (const uint8_t *)text, length, out, sizeof out);
+			if (built.fault != 0) {
+				printf(" refused, fault %u\n", built.fault);
+				return;
+			}
+			put(at, slot, PIERSTRAND_HEADER, out, HEADER_BYTES);
+			printf(" %u/%u", at, slot);
+		}
+	}
+	for (uint8_t i = 0; i < built.blocks; i++) { /* the blocks are the same in each of these builds */
+		struct pierstrand_due due = pierstrand_due_frame(frame, countdown, i);
+
+		put(due.frame, 1, PIERSTRAND_BLOCK, out + HEADER_BYTES + i * PIERSTRAND_SCH_F, PIERSTRAND_SCH_F);
+		printf("%s %u/1", i == 0 ? ", blocks in" : "", due.frame);
+	}
+	printf("\n");
+}
+
+/* Reports both slots of so many frames, from `frame` on; idle ones as silence. */
+static void report(uint8_t frame, int frames)
+{
+	for (; frames > 0; frames--, frame = frame % 18 + 1) {
+		for (uint8_t slot = 1; slot <= 3; slot += 2) {
+			const uint8_t *bytes = air[frame][slot].bytes;
+
+			if (air[frame][slot].kind == PIERSTRAND_HEADER)
+				slot_handler(frame, slot, PIERSTRAND_HEADER, bytes, HEADER_BYTES);
+			else if (air[frame][slot].kind == PIERSTRAND_BLOCK)
+				slot_handler(frame, slot, PIERSTRAND_BLOCK, bytes, PIERSTRAND_SCH_F);
+			else
+				slot_handler(frame, slot, PIERSTRAND_SILENCE, bytes, 0);
+			air[frame][slot].kind = 0;
+		}
+	}
+}
+
+/* A report that is refused has not happened: what was coming in still comes, and the buffer is as before. */
+static void refused(uint8_t frame, uint8_t slot, size_t room)
+{
+	static const uint8_t nothing[1];
+	static uint8_t before[sizeof message];
+	struct pierstrand_answer answer;
+	int same;
+
+	memcpy(before, message, sizeof before);
+	answer = pierstrand_hear(&receiver, frame, slot, PIERSTRAND_SILENCE, nothing, 0, message, room);
+	same = memcmp(before, message, sizeof before) == 0;
+	print_line(frame, slot, answer);
+	printf("refused, and the buffer %s\n", same ? "is as before" : "has changed");
+}
+
+/* Reading alone, with no receiver: the header in slot 1 of one frame, the block in slot 1 of another. */
+static void read_blocks(uint8_t frame, uint8_t block_frame)
+{
+	const uint8_t *both = air[frame][1].bytes;
+	struct pierstrand_header h =
+		pierstrand_read_header(both, PIERSTRAND_SCH_S, both + PIERSTRAND_SCH_S, PIERSTRAND_SCH_H);
+	struct pierstrand_continuation b = pierstrand_read_continuation(air[block_frame][1].bytes, PIERSTRAND_SCH_F);
+
+	printf("header: fault %u, frame %u, slot %u, from %u to %u, blocks %u, countdown %u, bits %zu from %zu on\n",
+	       h.fault, h.sync.frame, h.sync.slot + 1, h.fields.source.ssi, h.fields.destination.ssi, h.count,
+	       h.countdown, h.bits, h.first);
+	printf("block: fault %u, %s, bits %zu from %zu on\n",
+	       b.fault, b.last ? "DMAC-END" : "DMAC-FRAG", b.bits, b.first);
+}
+
+int main(void)
+{
+	static const char answer[] = "Hire 4711: hammer kit 12 and drill kit 3, out 06:40, quarry 5, cage 2 ok";
+	struct pierstrand_fresh fresh = pierstrand_fresh(INDIVIDUAL, GROUP, MNI);
+
+	if (fresh.fault != 0) {
+		printf("the unit's settings are refused: fault %u\n", fresh.fault);
+		return 1;
+	}
+	receiver = fresh.receiver;
+	printf("unit %d, group %d, network %d\n", INDIVIDUAL, GROUP, MNI);
+
+	/* Frame 18 comes where the first block would be due. No block goes there: it is in frame 1. */
+	lay_out(answer, 16, 1);
+	read_blocks(16, 3);
+	report(16, 5);
+	refused(3, 2, sizeof message);
+	refused(3, 1, sizeof message - 1);
+	report(3, 1);
+
+	/* Short enough for the header alone, which goes out twice. */
+	lay_out("ok", 4, 0);
+	report(4, 1);
+
+	/* The second of its blocks, due in frame 7, is not heard. */
+	lay_out(answer, 5, 0);
+	air[7][1].kind = 0;
+	report(5, 4);
+	return 0;
+}

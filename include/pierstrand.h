@@ -1,0 +1,274 @@
+/*
+ * Pierstrand: direct mode blocks of EN 300 396-3. Building and reading them, and a receiver that
+ * joins what a unit hears, slot by slot.
+ *
+ * Link target/staticlib/libboard.a (`rt staticlib board`). It is for x86-64 with the System V calling
+ * convention, as on Linux, and uses the SSE registers and the red zone. Of a C library it needs memcpy,
+ * memmove, memset and memcmp at most. It keeps no state of its own and takes no memory: calls that
+ * share nothing may run at the same time. examples/board.c is a slot handler over it.
+ *
+ * Every call takes every number and every lent byte, ends, and answers. A call that is refused
+ * answers a fault's number (enum pierstrand_fault) and 0 for everything else, and changes neither
+ * a field of the receiver nor a byte of a lent buffer. That is proved of each call
+ * (docs/PROMISES.md); nobody has to check first. What no proof can see is what C code hands over, so
+ * this is asked of it:
+ *
+ *   - A pointer is not null, is aligned for its type, and has behind it what the call says. That
+ *     holds for a length of 0 too: pass any array then.
+ *   - What a call writes (the receiver, `message` of pierstrand_hear, `out`) shares no byte with
+ *     anything else that it is lent, and no other thread or interrupt touches what is lent until
+ *     the call is over.
+ *   - A receiver comes from pierstrand_fresh, and then only pierstrand_hear writes to it. It may be
+ *     copied as a whole, and each copy goes on from there. Its fields are shown so that its size is
+ *     known: do not read them for a decision, and do not touch them.
+ *   - A number fits its parameter. C cuts a larger one without a word: frame 257 arrives as frame 1.
+ *
+ * What is lent belongs to the caller again after the call: no pointer is kept.
+ *
+ * Structs have bytes between their fields, of which nothing is promised: compare fields, not bytes,
+ * and do not hand a receiver's bytes to others, since left-overs of the stack may stand there.
+ *
+ * Bits are packed eight to a byte, the first bit highest: bit 0 is the highest of the first byte.
+ */
+#ifndef PIERSTRAND_H
+#define PIERSTRAND_H
+
+#include <stddef.h>
+#include <stdint.h>
+
+#ifdef __cplusplus
+extern "C" {
+#endif
+
+/* Bytes of each block. The last four bits are pad bits, which are 0. */
+#define PIERSTRAND_SCH_S 8  /* 60 bits */
+#define PIERSTRAND_SCH_H 16 /* 124 bits */
+#define PIERSTRAND_SCH_F 34 /* 268 bits */
+
+/* Bytes that a message buffer has at least: enough for every message that a receiver hands over. */
+#define PIERSTRAND_MESSAGE 512
+
+/* Bytes of an output that is long enough for every message: SCH/S, SCH/H and fifteen SCH/F. */
+#define PIERSTRAND_BLOCKS (PIERSTRAND_SCH_S + PIERSTRAND_SCH_H + 15 * PIERSTRAND_SCH_F)
+
+/* Why a call was refused, or a block counts as nothing heard. 0: no fault. */
+enum pierstrand_fault {
+	PIERSTRAND_LENGTH = 1,        /* a lent block has another length, or a build's output is too short;
+					 report: no such kind, or another length for it */
+	PIERSTRAND_PAD = 2,           /* a pad bit is set */
+	PIERSTRAND_SYSTEM = 3,        /* system code not one of direct mode's (9.3.29) */
+	PIERSTRAND_SYNC_TYPE = 4,     /* SYNC PDU type not DMAC-SYNC */
+	PIERSTRAND_COMMUNICATION = 5, /* communication type not direct MS-MS */
+	PIERSTRAND_ENCRYPTION = 6,    /* encryption not off */
+	PIERSTRAND_FRAME = 7,         /* a block's frame number not 1 to 18 */
+	PIERSTRAND_ADDRESS_TYPE = 8,  /* a reserved address type */
+	PIERSTRAND_MESSAGE_TYPE = 9,  /* message type without entry, or a header above 124 bits */
+	PIERSTRAND_COUNT = 10,        /* fragmented with slot count 0 */
+	PIERSTRAND_FILL = 11,         /* fill told of, no 1 in the DM-SDU's room */
+	PIERSTRAND_PDU_TYPE = 12,     /* an SCH/F that is neither DMAC-FRAG nor DMAC-END */
+	PIERSTRAND_RANGE = 13,        /* a number too large for its field, an absent one not 0, a width that is not
+					 the elements', or n above the bits lent */
+	PIERSTRAND_TOO_LONG = 14,     /* more than fifteen continuation blocks */
+	PIERSTRAND_REPORT_FRAME = 15, /* report: frame not 1 to 18 */
+	PIERSTRAND_REPORT_SLOT = 16,  /* report: slot not 1 or 3 */
+	PIERSTRAND_BUFFER = 17,       /* report: message buffer under 512 bytes */
+	PIERSTRAND_PLACE = 18         /* report: the block's frame or slot is not the report's */
+};
+
+/* What a report came to. */
+enum pierstrand_outcome {
+	PIERSTRAND_NOTHING = 0,      /* nothing for this unit */
+	PIERSTRAND_UNFRAGMENTED = 1, /* an unfragmented message is handed over */
+	PIERSTRAND_JOINED = 2,       /* a joined message is handed over */
+	PIERSTRAND_OPENED = 3,       /* a fragmented header, or a repeat of it: an assembly is open */
+	PIERSTRAND_KEPT = 4,         /* a block in its due slot was kept */
+	PIERSTRAND_COPY = 5          /* a copy of an unfragmented message that was handed over before */
+};
+
+/* What a report brings. */
+enum pierstrand_kind {
+	PIERSTRAND_SILENCE = 1, /* nothing: 0 bytes */
+	PIERSTRAND_HEADER = 2,  /* SCH/S, then SCH/H: 24 bytes */
+	PIERSTRAND_BLOCK = 3    /* SCH/F: 34 bytes */
+};
+
+/* SCH/S but for its fixed elements. */
+struct pierstrand_sync {
+	uint8_t system; /* system code, 10 to 15 (9.3.29) */
+	uint8_t usage;  /* A/B channel usage, 0 to 3 */
+	uint8_t slot;   /* as coded, 0 to 3 (9.3.25): one less than the slot's number, so 0 is slot 1 and 2 is slot 3 */
+	uint8_t frame;  /* 1 to 18 */
+};
+
+/* An address. */
+struct pierstrand_address {
+	uint8_t kind; /* its type: 0 true, 1 pseudo, 2 absent; 3 is reserved (9.3.5) */
+	uint32_t ssi; /* 24 bits; 0 where it is absent */
+};
+
+/* What a message's header says of it. */
+struct pierstrand_fields {
+	struct pierstrand_address destination;
+	struct pierstrand_address source;
+	uint32_t mni;      /* 24 bits */
+	uint8_t message;   /* message type, 5 bits (9.3.19) */
+	uint8_t width;     /* bits of its dependent elements, by 9.4 and 9.5: 8 for DM-SDS DATA, 23. Where an element hangs
+			      on a flag, the flag in `elements` says whether it is counted */
+	uint64_t elements; /* the elements as one run of `width` bits, the first of them highest */
+};
+
+/* A header that was read. */
+struct pierstrand_header {
+	uint8_t fault;      /* enum pierstrand_fault */
+	struct pierstrand_sync sync;
+	uint8_t fragmented; /* 1 where SCH/F blocks follow */
+	uint8_t count;      /* how many, 0 where none do */
+	uint8_t countdown;  /* frames that still repeat it, 0 to 3 */
+	struct pierstrand_fields fields;
+	size_t first;       /* the first bit of the DM-SDU in SCH/H */
+	size_t bits;        /* how many of the message's bits stand there; fill is not counted */
+};
+
+/* A continuation block that was read. */
+struct pierstrand_continuation {
+	uint8_t fault; /* enum pierstrand_fault */
+	uint8_t last;  /* 1 for DMAC-END, 0 for DMAC-FRAG */
+	size_t first;  /* the first bit of the DM-SDU in SCH/F */
+	size_t bits;   /* how many of the message's bits stand there; fill is not counted */
+};
+
+/* What a build answers. */
+struct pierstrand_built {
+	uint8_t fault;  /* enum pierstrand_fault */
+	uint8_t blocks; /* continuation blocks that were written, 0 to 15 */
+};
+
+/* A block's frame. */
+struct pierstrand_due {
+	uint8_t fault; /* enum pierstrand_fault */
+	uint8_t frame; /* 1 to 17; 0 where it was refused */
+};
+
+/* What a report came to. */
+struct pierstrand_answer {
+	uint8_t outcome; /* enum pierstrand_outcome */
+	uint8_t dropped; /* 1 where an open assembly ended here without being handed over; outcomes 2 and 4 never have it */
+	uint8_t fault;   /* enum pierstrand_fault: of the report, or of the block that it brought; then the outcome is 0 */
+	size_t bits;     /* of the message that is handed over, outcome 1 or 2; otherwise 0 */
+	struct pierstrand_fields fields; /* of its header; otherwise 0 */
+};
+
+/* The receiver. Not to be touched: see above. What is not there is 0. */
+struct pierstrand_receiver {
+	struct {
+		uint32_t individual;
+		uint32_t group;
+		uint32_t mni;
+	} settings;
+	struct {
+		uint8_t frame;
+		uint8_t slot;
+	} place;
+	struct {
+		uint8_t held;
+		uint64_t raw[2];
+		uint8_t again;
+	} nearest;
+	struct {
+		uint8_t held;
+		struct pierstrand_fields fields;
+		uint64_t raw[2];
+		uint8_t again;
+		uint8_t more;
+		uint8_t frame;
+		uint8_t countdown;
+		uint8_t kept;
+		size_t bits;
+		uint8_t store[PIERSTRAND_MESSAGE];
+	} assembly;
+};
+
+/* A fresh receiver. */
+struct pierstrand_fresh {
+	uint8_t fault; /* enum pierstrand_fault */
+	struct pierstrand_receiver receiver;
+};
+
+/*
+ * A receiver that has heard nothing, for a unit with these three settings, each below 2^24. A message is
+ * for the unit if its MNI is `mni` and its destination is a true address, type 0, that equals
+ * `individual` or `group`; these two may be equal. The type is `struct pierstrand_fresh`, in C++ too.
+ * Refused, 13: a setting is 2^24 or more. The receiver's three settings are 0 then; it may be used.
+ */
+struct pierstrand_fresh pierstrand_fresh(uint32_t individual, uint32_t group, uint32_t mni);
+
+/*
+ * Hears what one slot brought, and changes the receiver where it stands. Every slot 1 and slot 3 is to be
+ * reported, in their order, one that brought nothing too: slot 3 of a frame after its slot 1, then
+ * slot 1 of the next frame, frame 1 after frame 18. The first report may be any. One that does not
+ * follow the last accepted one is a break: it drops an open assembly, and nothing is a copy over it.
+ *
+ *   frame    1 to 18
+ *   slot     1 or 3: its number, not its code
+ *   kind     enum pierstrand_kind; `length` is 0, 24 or 34 by it
+ *   blocks   what was heard; it is only read
+ *   message  `room` bytes, 512 or more: a message that is handed over goes to its start, the spare
+ *            bits of its last byte 0. The bytes after it stay as they are; for outcomes other than
+ *            1 and 2 all of them do
+ *
+ * Refused in this order: 15, 16, 1 (another kind, or another length for the kind), 17. The report
+ * has not happened then: the outcome is 0, and the receiver and the buffer are as before.
+ * Not refused, but heard as nothing, with its fault in the answer: a block with one of the faults 2
+ * to 12 or 18 (18 between 7 and 10). The outcome is 0, and dropped is what it is at silence.
+ */
+struct pierstrand_answer pierstrand_hear(struct pierstrand_receiver *receiver, uint8_t frame, uint8_t slot,
+					 uint8_t kind, const uint8_t *blocks, size_t length,
+					 uint8_t *message, size_t room);
+
+/*
+ * Builds the blocks of a message, one header and up to fifteen continuation blocks, and writes SCH/S,
+ * SCH/H and the SCH/F blocks one after another at the start of `out`, 24 + 34 * blocks bytes; the
+ * bytes after them stay as they are.
+ *
+ * The header goes out in slots 1 and 3 of its frame and of `countdown` frames more. Each repeat is a
+ * build of its own, with its own slot and frame and a countdown that is less by the frames gone by;
+ * the continuation blocks are the same in each. Where they go: pierstrand_due_frame.
+ *
+ *   countdown  frames that still repeat the header, 0 to 3
+ *   n          bits of the message, from the start of `message`
+ *   message    `length` bytes, 8 * length bits at least n; it is only read
+ *   out        `room` bytes; PIERSTRAND_BLOCKS is enough for every message
+ *
+ * Refused in this order, with nothing written: 3, 7, 13, 8, 9, 14, 1.
+ */
+struct pierstrand_built pierstrand_build(struct pierstrand_sync sync, uint8_t countdown,
+					 struct pierstrand_fields fields, size_t n,
+					 const uint8_t *message, size_t length,
+					 uint8_t *out, size_t room);
+
+/*
+ * Reads a header from its two blocks, of 8 and 16 bytes. Copies nothing: the message's bits stay where
+ * they are, `bits` of them from bit `first` of SCH/H on.
+ * Refused in this order: 1, 2 (both blocks), 3 to 7, 10, 8, 9, 11.
+ */
+struct pierstrand_header pierstrand_read_header(const uint8_t *sch_s, size_t s_length,
+						const uint8_t *sch_h, size_t h_length);
+
+/*
+ * Reads a continuation block, of 34 bytes. Copies nothing, as above.
+ * Refused in this order: 1, 2, 12, 11.
+ */
+struct pierstrand_continuation pierstrand_read_continuation(const uint8_t *sch_f, size_t length);
+
+/*
+ * The frame in whose slot 1 continuation block `block`, from 0, of a message goes, when a header of it
+ * stands in `frame` with this countdown; each repeat gives the same. Frame 18 is never a block's.
+ * Refused in this order: 7, 13 (countdown above 3), 14 (block above 14).
+ */
+struct pierstrand_due pierstrand_due_frame(uint8_t frame, uint8_t countdown, uint8_t block);
+
+#ifdef __cplusplus
+}
+#endif
+
+#endif

@@ -1,0 +1,8 @@
+#ifndef STDDEF_H
+#define STDDEF_H
+
+typedef __SIZE_TYPE__ size_t;
+
+#define offsetof(type, member) __builtin_offsetof(type, member)
+
+#endif

@@ -1,0 +1,519 @@
+/*
+ * Holds include/pierstrand.h to the library that is linked: sizes, places and numbers.
+ *
+ * It prints the size, the alignment and the fields of every struct as this compiler has them; board.py holds that to the structs of
+ * the crates. Then it makes the calls, with a number of its own for every field, and looks for it at the header's place in bytes that
+ * the library wrote. It says what is not so, and ends with 1 then.
+ */
+#include <stdio.h>
+#include <string.h>
+
+#include "pierstrand.h"
+
+/* ---- The structs. */
+
+struct field {
+	const char *name;
+	size_t at, size;
+};
+
+struct shape {
+	const char *name;
+	size_t size, align, count;
+	const struct field *fields;
+};
+
+#define FIELD(type, name) {#name, offsetof(struct pierstrand_##type, name), sizeof ((struct pierstrand_##type *)0)->name}
+#define COUNT(type) (sizeof type##_fields / sizeof type##_fields[0])
+#define SHAPE(type, ...) \
+	struct type##_after_byte { char byte; struct pierstrand_##type it; }; \
+	static const struct field type##_fields[] = {__VA_ARGS__}; \
+	static const struct shape type = {#type, sizeof (struct pierstrand_##type), offsetof(struct type##_after_byte, it), COUNT(type), type##_fields}
+
+/* Fields of a struct within another: `in` is the way there, with its dots. */
+#define SYNC(type, in) FIELD(type, in system), FIELD(type, in usage), FIELD(type, in slot), FIELD(type, in frame)
+#define ADDRESS(type, in) FIELD(type, in kind), FIELD(type, in ssi)
+#define FIELDS(type, in) \
+	ADDRESS(type, in destination.), ADDRESS(type, in source.), FIELD(type, in mni), FIELD(type, in message), \
+	FIELD(type, in width), FIELD(type, in elements)
+#define RECEIVER(type, in) \
+	FIELD(type, in settings.individual), FIELD(type, in settings.group), FIELD(type, in settings.mni), \
+	FIELD(type, in place.frame), FIELD(type, in place.slot), \
+	FIELD(type, in nearest.held), FIELD(type, in nearest.raw), FIELD(type, in nearest.again), \
+	FIELD(type, in assembly.held), FIELDS(type, in assembly.fields.), FIELD(type, in assembly.raw), \
+	FIELD(type, in assembly.again), FIELD(type, in assembly.more), FIELD(type, in assembly.frame), \
+	FIELD(type, in assembly.countdown), FIELD(type, in assembly.kept), FIELD(type, in assembly.bits), \
+	FIELD(type, in assembly.store)
+
+SHAPE(sync, SYNC(sync, ));
+SHAPE(address, ADDRESS(address, ));
+SHAPE(fields, FIELDS(fields, ));
+SHAPE(header, FIELD(header, fault), SYNC(header, sync.), FIELD(header, fragmented), FIELD(header, count),
+      FIELD(header, countdown), FIELDS(header, fields.), FIELD(header, first), FIELD(header, bits));
+SHAPE(continuation, FIELD(continuation, fault), FIELD(continuation, last), FIELD(continuation, first), FIELD(continuation, bits));
+SHAPE(built, FIELD(built, fault), FIELD(built, blocks));
+SHAPE(due, FIELD(due, fault), FIELD(due, frame));
+SHAPE(answer, FIELD(answer, outcome), FIELD(answer, dropped), FIELD(answer, fault), FIELD(answer, bits), FIELDS(answer, fields.));
+SHAPE(receiver, RECEIVER(receiver, ));
+SHAPE(fresh, FIELD(fresh, fault), RECEIVER(fresh, receiver.));
+
+/* Each struct set by position to 1, 2, 3 ..: with a field more or elsewhere, a number is under another name, or it does not compile. */
+static const struct pierstrand_sync set_sync = {1, 2, 3, 4};
+static const struct pierstrand_address set_address = {1, 2};
+static const struct pierstrand_fields set_fields = {{1, 2}, {3, 4}, 5, 6, 7, 8};
+static const struct pierstrand_header set_header = {1, {2, 3, 4, 5}, 6, 7, 8, {{9, 10}, {11, 12}, 13, 14, 15, 16}, 17, 18};
+static const struct pierstrand_continuation set_continuation = {1, 2, 3, 4};
+static const struct pierstrand_built set_built = {1, 2};
+static const struct pierstrand_due set_due = {1, 2};
+static const struct pierstrand_answer set_answer = {1, 2, 3, 4, {{5, 6}, {7, 8}, 9, 10, 11, 12}};
+static const struct pierstrand_receiver set_receiver = {
+	{1, 2, 3}, {4, 5}, {6, {7}, 8}, {9, {{10, 11}, {12, 13}, 14, 15, 16, 17}, {18}, 19, 20, 21, 22, 23, 24, {25}}};
+static const struct pierstrand_fresh set_fresh = {
+	1, {{2, 3, 4}, {5, 6}, {7, {8}, 9}, {10, {{11, 12}, {13, 14}, 15, 16, 17, 18}, {19}, 20, 21, 22, 23, 24, 25, {26}}}};
+
+/* ---- What is held. */
+
+static unsigned long held, wrong;
+
+/* Without the spaces that FIELD has after its dots. */
+static void print_name(const char *name)
+{
+	for (char last = 0; *name != 0; last = *name++)
+		if (*name != ' ' || last != '.')
+			putchar(*name);
+}
+
+static void hold(int right, const char *what, const char *name, uint64_t is, uint64_t should_be)
+{
+	held++;
+	if (right)
+		return;
+	wrong++;
+	printf("wrong: %s, ", what);
+	print_name(name);
+	printf(": %llu and should be %llu\n", (unsigned long long)is, (unsigned long long)should_be);
+}
+
+static void is(const char *what, uint64_t is, uint64_t should_be)
+{
+	hold(is == should_be, "here", what, is, should_be);
+}
+
+#define IS(a, b) is(#a, (uint64_t)(a), (uint64_t)(b))
+
+/* The number in a field; of an array, in its first byte. */
+static uint64_t number(const void *bytes, const struct field *f)
+{
+	uint64_t n = 0;
+
+	for (size_t i = f->size > sizeof n ? 1 : f->size; i > 0; i--)
+		n = n << 8 | ((const uint8_t *)bytes)[f->at + i - 1];
+	return n;
+}
+
+static void print_shape(const struct shape *s, const void *set)
+{
+	printf("struct pierstrand_%s: %zu bytes, aligned to %zu\n", s->name, s->size, s->align);
+	for (size_t i = 0; i < s->count; i++) {
+		printf("%5zu %3zu  ", s->fields[i].at, s->fields[i].size);
+		print_name(s->fields[i].name);
+		putchar('\n');
+		hold(number(set, &s->fields[i]) == i + 1, "by position", s->fields[i].name, number(set, &s->fields[i]), i + 1);
+	}
+}
+
+/* The numbers of all fields. Arrays are left out. */
+static void holds(const struct shape *s, const void *bytes, const uint64_t *numbers)
+{
+	for (size_t i = 0; i < s->count; i++)
+		if (s->fields[i].size <= sizeof numbers[i])
+			hold(number(bytes, &s->fields[i]) == numbers[i], s->name, s->fields[i].name, number(bytes, &s->fields[i]), numbers[i]);
+}
+
+#define HOLDS(shape, bytes, ...) holds(&shape, bytes, (const uint64_t[COUNT(shape)]){__VA_ARGS__})
+
+/* Two structs are the same, field by field, arrays too. */
+static void same(const struct shape *s, const void *one, const void *other)
+{
+	for (size_t i = 0; i < s->count; i++) {
+		const struct field *f = &s->fields[i];
+
+		hold(memcmp((const uint8_t *)one + f->at, (const uint8_t *)other + f->at, f->size) == 0, s->name, f->name,
+		     number(one, f), number(other, f));
+	}
+}
+
+/* ---- Two messages for one unit. Their headers byte by byte, as the standard has them: frame 13, slot 1 and slot 3. */
+
+#define INDIVIDUAL 0x123456
+#define GROUP 0x2468AC
+#define MNI 0xABCDEF
+#define LONG_BITS (3 + 8 * 264 + 100)
+#define LONG_FIELDS 0, INDIVIDUAL, 1, 0x654321, MNI, 18, 22, 0x2B3C5D
+#define SHORT_BITS 13
+#define SHORT_FIELDS 0, GROUP, 2, 0, MNI, 15, 33, 0x1A2A55A5A
+#define NO_FIELDS 0, 0, 0, 0, 0, 0, 0, 0
+#define HEADER_BYTES (PIERSTRAND_SCH_S + PIERSTRAND_SCH_H)
+
+static const uint8_t long_header[24] = {0xB0, 0x11, 0xA0, 0x00, 0x00, 0x00, 0x00, 0x00, 0x00, 0x19, 0xC1, 0x23,
+					0x45, 0x65, 0x95, 0x0C, 0x86, 0xAF, 0x37, 0xBE, 0x55, 0x9E, 0x2E, 0x80};
+static const uint8_t short_header[24] = {0xE0, 0x39, 0xA0, 0x00, 0x00, 0x00, 0x00, 0x00, 0x00, 0x28, 0x24, 0x68,
+					 0xAC, 0xAA, 0xF3, 0x7B, 0xDF, 0xA2, 0xA5, 0x5A, 0x5A, 0x1B, 0x44, 0x00};
+static const struct pierstrand_sync long_sync = {.system = 11, .usage = 1, .slot = 0, .frame = 13};
+static const struct pierstrand_sync short_sync = {.system = 14, .usage = 3, .slot = 2, .frame = 13};
+static const struct pierstrand_fields long_fields = {
+	.destination = {.kind = 0, .ssi = INDIVIDUAL}, .source = {.kind = 1, .ssi = 0x654321},
+	.mni = MNI, .message = 18, .width = 22, .elements = 0x2B3C5D};
+static const struct pierstrand_fields short_fields = {
+	.destination = {.kind = 0, .ssi = GROUP}, .source = {.kind = 2, .ssi = 0},
+	.mni = MNI, .message = 15, .width = 33, .elements = 0x1A2A55A5A};
+
+static uint8_t text[PIERSTRAND_MESSAGE];      /* both messages are the start of it */
+static uint8_t blocks[PIERSTRAND_BLOCKS + 8]; /* the long one, built */
+#define CONTINUATION(i) (blocks + HEADER_BYTES + PIERSTRAND_SCH_F * (i))
+
+/* ---- Calls into filled bytes. */
+
+/*
+ * On x86-64 a struct of more than 16 bytes is answered into bytes of the caller, whose address goes first. Called so, the library
+ * writes into two areas that are filled differently, and a byte that is then the same in both was written. What it writes to is
+ * aligned to 8 and not to 16.
+ */
+#define AREA 1024
+typedef union {
+	uint64_t aligned;
+	struct pierstrand_receiver receiver;
+	uint8_t bytes[AREA];
+} area;
+
+static area answers[2], receivers[2], plain;
+static const uint8_t filling[2] = {0x5A, 0xA5};
+
+static uint8_t *in(area *a)
+{
+	return a->bytes + 8 + ((size_t)a->bytes & 8);
+}
+
+static void fill(area *two)
+{
+	for (int k = 0; k < 2; k++)
+		memset(two[k].bytes, filling[k], AREA);
+}
+
+/* Up to which byte the library wrote: the size of its struct. */
+static void ends(const struct shape *s, area *two)
+{
+	size_t end = AREA - 16;
+
+	while (end > 0 && in(&two[0])[end - 1] == filling[0] && in(&two[1])[end - 1] == filling[1])
+		end--;
+	hold(end == s->size, s->name, "last byte written", end, s->size);
+}
+
+typedef void any_call(void);
+typedef void *fresh_call(void *, uint32_t, uint32_t, uint32_t);
+typedef void *hear_call(void *, void *, uint8_t, uint8_t, uint8_t, const uint8_t *, size_t, uint8_t *, size_t);
+typedef void *header_call(void *, const uint8_t *, size_t, const uint8_t *, size_t);
+typedef void *continuation_call(void *, const uint8_t *, size_t);
+
+static fresh_call *fresh_into = (fresh_call *)(any_call *)pierstrand_fresh;
+static hear_call *hear_into = (hear_call *)(any_call *)pierstrand_hear;
+static header_call *header_into = (header_call *)(any_call *)pierstrand_read_header;
+static continuation_call *continuation_into = (continuation_call *)(any_call *)pierstrand_read_continuation;
+
+/* Each of these calls into both areas, and then, if all was right so far, as C does. What was answered is in the first area. */
+static const uint8_t *fresh_of(uint32_t individual, uint32_t group, uint32_t mni)
+{
+	fill(answers);
+	for (int k = 0; k < 2; k++)
+		IS(fresh_into(in(&answers[k]), individual, group, mni) == in(&answers[k]), 1);
+	same(&fresh, in(&answers[0]), in(&answers[1]));
+	ends(&fresh, answers);
+	if (!wrong) {
+		struct pierstrand_fresh it = pierstrand_fresh(individual, group, mni);
+		same(&fresh, &it, in(&answers[0]));
+	}
+	return in(&answers[0]);
+}
+
+static const uint8_t *header_of(const uint8_t *both, size_t s_length, size_t h_length)
+{
+	static uint8_t apart[1 + PIERSTRAND_SCH_S + 2 + PIERSTRAND_SCH_H];
+	uint8_t *s = apart + 1, *h = s + PIERSTRAND_SCH_S + 2; /* lent at odd addresses, and not side by side */
+
+	memcpy(s, both, PIERSTRAND_SCH_S);
+	memcpy(h, both + PIERSTRAND_SCH_S, PIERSTRAND_SCH_H);
+	fill(answers);
+	for (int k = 0; k < 2; k++)
+		IS(header_into(in(&answers[k]), s, s_length, h, h_length) == in(&answers[k]), 1);
+	same(&header, in(&answers[0]), in(&answers[1]));
+	ends(&header, answers);
+	if (!wrong) {
+		struct pierstrand_header it = pierstrand_read_header(s, s_length, h, h_length);
+		same(&header, &it, in(&answers[0]));
+	}
+	return in(&answers[0]);
+}
+
+static const uint8_t *continuation_of(const uint8_t *block, size_t length)
+{
+	fill(answers);
+	for (int k = 0; k < 2; k++)
+		IS(continuation_into(in(&answers[k]), block, length) == in(&answers[k]), 1);
+	same(&continuation, in(&answers[0]), in(&answers[1]));
+	ends(&continuation, answers);
+	if (!wrong) {
+		struct pierstrand_continuation it = pierstrand_read_continuation(block, length);
+		same(&continuation, &it, in(&answers[0]));
+	}
+	return in(&answers[0]);
+}
+
+/* Three receivers hear the same, two of them in filled areas. */
+static const uint8_t *answer_of(uint8_t frame, uint8_t slot, uint8_t kind, const uint8_t *lent, size_t length, size_t room)
+{
+	static uint8_t messages[3][PIERSTRAND_MESSAGE + 8];
+
+	fill(answers);
+	memset(messages, 0x5A, sizeof messages);
+	for (int k = 0; k < 2; k++)
+		IS(hear_into(in(&answers[k]), in(&receivers[k]), frame, slot, kind, lent, length, messages[k], room) == in(&answers[k]), 1);
+	same(&answer, in(&answers[0]), in(&answers[1]));
+	ends(&answer, answers);
+	same(&receiver, in(&receivers[0]), in(&receivers[1]));
+	ends(&receiver, receivers);
+	if (!wrong) {
+		struct pierstrand_answer it = pierstrand_hear(&plain.receiver, frame, slot, kind, lent, length, messages[2], room);
+		size_t whole = it.bits / 8, used = (it.bits + 7) / 8;
+
+		same(&answer, &it, in(&answers[0]));
+		same(&receiver, &plain, in(&receivers[0]));
+
+		/* The message is the start of the text, and the buffer after it is as it was. */
+		IS(memcmp(messages[0], messages[1], sizeof messages[0]), 0);
+		IS(memcmp(messages[0], messages[2], sizeof messages[0]), 0);
+		IS(memcmp(messages[0], text, whole), 0);
+		if (used > whole)
+			IS(messages[0][whole], text[whole] & (uint8_t)(0xFF00 >> it.bits % 8));
+		for (size_t i = used; i < sizeof messages[0]; i++)
+			IS(messages[0][i], 0x5A);
+	}
+	return in(&answers[0]);
+}
+
+#define HEARD(frame, slot, header) answer_of(frame, slot, PIERSTRAND_HEADER, header, HEADER_BYTES, PIERSTRAND_MESSAGE)
+#define SILENCE(frame, slot) answer_of(frame, slot, PIERSTRAND_SILENCE, text, 0, PIERSTRAND_MESSAGE)
+
+/* ---- The arrays of a receiver. */
+
+/* An SCH/H without its countdown, two bits at `bit`: two numbers of 64 bits. */
+static void raw_is(size_t at, const uint8_t *both, unsigned bit)
+{
+	uint64_t raw[2] = {0, 0};
+	size_t i;
+
+	for (i = 0; i < PIERSTRAND_SCH_H; i++)
+		raw[i / 8] = raw[i / 8] << 8 | both[PIERSTRAND_SCH_S + i];
+	raw[0] &= ~((uint64_t)3 << (62 - bit));
+	IS(memcmp(in(&receivers[0]) + at, raw, sizeof raw), 0);
+}
+
+#define NEAREST_RAW offsetof(struct pierstrand_receiver, nearest.raw)
+#define ASSEMBLY_RAW offsetof(struct pierstrand_receiver, assembly.raw)
+
+/* The first `bits` of the text, and 0 after them. */
+static void store_has(size_t bits)
+{
+	const uint8_t *store = in(&receivers[0]) + offsetof(struct pierstrand_receiver, assembly.store);
+
+	for (size_t i = 0; i < PIERSTRAND_MESSAGE; i++) {
+		size_t left = bits < 8 * i ? 0 : bits - 8 * i;
+
+		IS(store[i], left >= 8 ? text[i] : text[i] & (uint8_t)(0xFF00 >> left));
+	}
+}
+
+/* ---- The calls. */
+
+static void builds(void)
+{
+	struct pierstrand_built b;
+	struct pierstrand_due d;
+
+	for (size_t i = 0; i < sizeof text; i++)
+		text[i] = (uint8_t)(0x1B + 37 * i);
+	memset(blocks, 0x5A, sizeof blocks);
+	b = pierstrand_build(short_sync, 2, short_fields, SHORT_BITS, text, sizeof text, blocks, sizeof blocks);
+	HOLDS(built, &b, 0, 0);
+	IS(memcmp(blocks, short_header, sizeof short_header), 0);
+	IS(blocks[HEADER_BYTES], 0x5A);
+	b = pierstrand_build(long_sync, 3, long_fields, LONG_BITS, text, LONG_BITS / 8, blocks, sizeof blocks);
+	HOLDS(built, &b, PIERSTRAND_RANGE, 0);
+	IS(memcmp(blocks, short_header, sizeof short_header), 0);
+	b = pierstrand_build(long_sync, 3, long_fields, LONG_BITS, text, LONG_BITS / 8 + 1, blocks, sizeof blocks);
+	HOLDS(built, &b, 0, 9);
+	IS(memcmp(blocks, long_header, sizeof long_header), 0);
+	IS(*CONTINUATION(9), 0x5A);
+
+	d = pierstrand_due_frame(13, 3, 8);
+	HOLDS(due, &d, 0, 8);
+	d = pierstrand_due_frame(19, 3, 8);
+	HOLDS(due, &d, PIERSTRAND_FRAME, 0);
+}
+
+static void reads(void)
+{
+	HOLDS(header, header_of(long_header, PIERSTRAND_SCH_S, PIERSTRAND_SCH_H), 0, 11, 1, 0, 13, 1, 9, 3, LONG_FIELDS, 121, 3);
+	HOLDS(header, header_of(short_header, PIERSTRAND_SCH_S, PIERSTRAND_SCH_H), 0, 14, 3, 2, 13, 0, 0, 2, SHORT_FIELDS, 104, SHORT_BITS);
+	HOLDS(continuation, continuation_of(CONTINUATION(0), PIERSTRAND_SCH_F), 0, 0, 4, 264);
+	HOLDS(continuation, continuation_of(CONTINUATION(8), PIERSTRAND_SCH_F), 0, 1, 4, 100);
+}
+
+#define SETTINGS INDIVIDUAL, GROUP, MNI
+#define NO_ASSEMBLY 0, NO_FIELDS, 0, 0, 0, 0, 0, 0, 0, 0
+#define RECEIVER_HOLDS(...) HOLDS(receiver, in(&receivers[0]), SETTINGS, __VA_ARGS__)
+
+static void hears(void)
+{
+	uint8_t in_slot_1[sizeof short_header];
+	const uint8_t *it;
+
+	HOLDS(fresh, fresh_of(1 << 24, 1, 2), PIERSTRAND_RANGE, 0, 0, 0, 0, 0, 0, 0, 0, NO_ASSEMBLY);
+	it = fresh_of(SETTINGS);
+	HOLDS(fresh, it, 0, SETTINGS, 0, 0, 0, 0, 0, NO_ASSEMBLY);
+	fill(receivers);
+	for (int k = 0; k < 2; k++)
+		memcpy(in(&receivers[k]), it + offsetof(struct pierstrand_fresh, receiver), sizeof (struct pierstrand_receiver));
+	store_has(0);
+	if (wrong)
+		return;
+	plain.receiver = pierstrand_fresh(SETTINGS).receiver;
+
+	/* The short message: the nearest header, and no assembly. Then a break. */
+	HOLDS(answer, HEARD(13, 3, short_header), PIERSTRAND_UNFRAGMENTED, 0, 0, SHORT_BITS, SHORT_FIELDS);
+	RECEIVER_HOLDS(13, 3, 1, 0, 3, NO_ASSEMBLY);
+	raw_is(NEAREST_RAW, short_header, 12);
+	HOLDS(answer, SILENCE(12, 3), PIERSTRAND_NOTHING, 0, 0, 0, NO_FIELDS);
+	RECEIVER_HOLDS(12, 3, 0, 0, 0, NO_ASSEMBLY);
+
+	/* The long one begins, and the short one comes between. */
+	HOLDS(answer, HEARD(13, 1, long_header), PIERSTRAND_OPENED, 0, 0, 0, NO_FIELDS);
+	RECEIVER_HOLDS(13, 1, 1, 0, 4, 1, LONG_FIELDS, 0, 4, 8, 13, 3, 0, 3, 0);
+	raw_is(NEAREST_RAW, long_header, 16);
+	HOLDS(answer, HEARD(13, 3, short_header), PIERSTRAND_UNFRAGMENTED, 0, 0, SHORT_BITS, SHORT_FIELDS);
+	RECEIVER_HOLDS(13, 3, 1, 0, 3, 1, LONG_FIELDS, 0, 4, 8, 13, 3, 0, 3, 0);
+	raw_is(NEAREST_RAW, short_header, 12);
+	raw_is(ASSEMBLY_RAW, long_header, 16);
+	store_has(3);
+
+	/* Refused: the receiver is as before. */
+	HOLDS(answer, answer_of(19, 1, PIERSTRAND_SILENCE, text, 0, PIERSTRAND_MESSAGE), 0, 0, PIERSTRAND_REPORT_FRAME, 0, NO_FIELDS);
+	HOLDS(answer, answer_of(14, 2, PIERSTRAND_SILENCE, text, 0, PIERSTRAND_MESSAGE), 0, 0, PIERSTRAND_REPORT_SLOT, 0, NO_FIELDS);
+	HOLDS(answer, answer_of(14, 1, PIERSTRAND_SILENCE, text, 1, PIERSTRAND_MESSAGE), 0, 0, PIERSTRAND_LENGTH, 0, NO_FIELDS);
+	HOLDS(answer, answer_of(14, 1, PIERSTRAND_SILENCE, text, 0, PIERSTRAND_MESSAGE - 1), 0, 0, PIERSTRAND_BUFFER, 0, NO_FIELDS);
+	RECEIVER_HOLDS(13, 3, 1, 0, 3, 1, LONG_FIELDS, 0, 4, 8, 13, 3, 0, 3, 0);
+	raw_is(ASSEMBLY_RAW, long_header, 16);
+	store_has(3);
+
+	/* A header that names another frame; then nothing, up to the first due slot. */
+	HOLDS(answer, HEARD(14, 1, long_header), PIERSTRAND_NOTHING, 0, PIERSTRAND_PLACE, 0, NO_FIELDS);
+	SILENCE(14, 3);
+	SILENCE(15, 1);
+	SILENCE(15, 3);
+	SILENCE(16, 1);
+	HOLDS(answer, SILENCE(16, 3), PIERSTRAND_NOTHING, 0, 0, 0, NO_FIELDS);
+	RECEIVER_HOLDS(16, 3, 1, 0, 0, 1, LONG_FIELDS, 0, 1, 8, 13, 3, 0, 3, 0);
+
+	/* Its blocks: frame 17, then 1 to 8. */
+	for (uint8_t i = 0; i < 9; i++) {
+		uint8_t frame = pierstrand_due_frame(13, 3, i).frame;
+
+		IS(frame, i == 0 ? 17 : i);
+		it = answer_of(frame, 1, PIERSTRAND_BLOCK, CONTINUATION(i), PIERSTRAND_SCH_F, PIERSTRAND_MESSAGE);
+		if (i == 8)
+			break;
+		HOLDS(answer, it, PIERSTRAND_KEPT, 0, 0, 0, NO_FIELDS);
+		RECEIVER_HOLDS(frame, 1, 1, 0, 0, 1, LONG_FIELDS, 0, 0, 8, 13, 3, i + 1, 3 + 264 * (i + 1), 0);
+		raw_is(ASSEMBLY_RAW, long_header, 16);
+		store_has(3 + 264 * ((size_t)i + 1));
+		SILENCE(frame, 3);
+		if (frame == 17) {
+			SILENCE(18, 1);
+			SILENCE(18, 3);
+		}
+	}
+	HOLDS(answer, it, PIERSTRAND_JOINED, 0, 0, LONG_BITS, LONG_FIELDS);
+	RECEIVER_HOLDS(8, 1, 1, 0, 0, NO_ASSEMBLY);
+	store_has(0);
+
+	/* After a break the short one in slot 1, and its copy in slot 3; then an assembly that a break drops. */
+	memcpy(in_slot_1, short_header, sizeof in_slot_1);
+	in_slot_1[1] ^= 8;
+	HOLDS(answer, HEARD(13, 1, in_slot_1), PIERSTRAND_UNFRAGMENTED, 0, 0, SHORT_BITS, SHORT_FIELDS);
+	HOLDS(answer, HEARD(13, 3, short_header), PIERSTRAND_COPY, 0, 0, 0, NO_FIELDS);
+	HOLDS(answer, HEARD(13, 1, long_header), PIERSTRAND_OPENED, 0, 0, 0, NO_FIELDS);
+	HOLDS(answer, SILENCE(14, 1), PIERSTRAND_NOTHING, 1, 0, 0, NO_FIELDS);
+	RECEIVER_HOLDS(14, 1, 0, 0, 0, NO_ASSEMBLY);
+}
+
+/* The other faults: bits of the long header turned, other lengths, the longest message. */
+static void faults(void)
+{
+	static const struct {
+		uint8_t at, bits, fault;
+	} turned[] = {
+		{7, 0x01, PIERSTRAND_PAD}, {0, 0x20, PIERSTRAND_SYSTEM}, {0, 0x04, PIERSTRAND_SYNC_TYPE},
+		{0, 0x01, PIERSTRAND_COMMUNICATION}, {2, 0x08, PIERSTRAND_ENCRYPTION}, {1, 0x02, PIERSTRAND_FRAME},
+		{10, 0x30, PIERSTRAND_ADDRESS_TYPE}, {19, 0x01, PIERSTRAND_MESSAGE_TYPE}, {9, 0x09, PIERSTRAND_COUNT},
+		{9, 0x20, PIERSTRAND_FILL},
+	};
+	struct pierstrand_fields least = {.destination = {.kind = 2}, .source = {.kind = 2}, .message = 21};
+	size_t most = 120 - 47 + 15 * 264;
+	uint8_t bytes[PIERSTRAND_SCH_F];
+	struct pierstrand_built b;
+
+	for (size_t i = 0; i < sizeof turned / sizeof turned[0]; i++) {
+		memcpy(bytes, long_header, sizeof long_header);
+		bytes[turned[i].at] ^= turned[i].bits;
+		HOLDS(header, header_of(bytes, PIERSTRAND_SCH_S, PIERSTRAND_SCH_H), turned[i].fault, 0, 0, 0, 0, 0, 0, 0, NO_FIELDS, 0, 0);
+	}
+	memcpy(bytes, CONTINUATION(0), sizeof bytes);
+	bytes[0] ^= 0x80;
+	HOLDS(continuation, continuation_of(bytes, PIERSTRAND_SCH_F), PIERSTRAND_PDU_TYPE, 0, 0, 0);
+	HOLDS(continuation, continuation_of(bytes, PIERSTRAND_SCH_F - 1), PIERSTRAND_LENGTH, 0, 0, 0);
+	HOLDS(header, header_of(long_header, PIERSTRAND_SCH_S - 1, PIERSTRAND_SCH_H), PIERSTRAND_LENGTH, 0, 0, 0, 0, 0, 0, 0, NO_FIELDS, 0, 0);
+	HOLDS(header, header_of(long_header, PIERSTRAND_SCH_S, PIERSTRAND_SCH_H - 1), PIERSTRAND_LENGTH, 0, 0, 0, 0, 0, 0, 0, NO_FIELDS, 0, 0);
+	IS(pierstrand_due_frame(13, 4, 0).fault, PIERSTRAND_RANGE);
+	IS(pierstrand_due_frame(13, 3, 15).fault, PIERSTRAND_TOO_LONG);
+
+	memset(blocks, 0x5A, sizeof blocks);
+	b = pierstrand_build(long_sync, 0, least, most, text, sizeof text, blocks, PIERSTRAND_BLOCKS - 1);
+	HOLDS(built, &b, PIERSTRAND_LENGTH, 0);
+	b = pierstrand_build(long_sync, 0, least, most + 1, text, sizeof text, blocks, sizeof blocks);
+	HOLDS(built, &b, PIERSTRAND_TOO_LONG, 0);
+	IS(blocks[0], 0x5A);
+	b = pierstrand_build(long_sync, 0, least, most, text, sizeof text, blocks, PIERSTRAND_BLOCKS);
+	HOLDS(built, &b, 0, 15);
+	IS(blocks[PIERSTRAND_BLOCKS - 1] & 0x0F, 0);
+	IS(blocks[PIERSTRAND_BLOCKS], 0x5A);
+}
+
+int main(void)
+{
+	print_shape(&sync, &set_sync);
+	print_shape(&address, &set_address);
+	print_shape(&fields, &set_fields);
+	print_shape(&header, &set_header);
+	print_shape(&continuation, &set_continuation);
+	print_shape(&built, &set_built);
+	print_shape(&due, &set_due);
+	print_shape(&answer, &set_answer);
+	print_shape(&receiver, &set_receiver);
+	print_shape(&fresh, &set_fresh);
+	builds();
+	reads();
+	hears();
+	faults();
+	printf("%lu held, %lu wrong\n", held, wrong);
+	return wrong != 0;
+}
