@@ -112,8 +112,8 @@ struct pierstrand_fields {
 	struct pierstrand_address source;
 	uint32_t mni;      /* 24 bits */
 	uint8_t message;   /* message type, 5 bits (9.3.19) */
-	uint8_t width;     /* bits of its dependent elements, by 9.4 and 9.5: 8 for DM-SDS DATA, 23. Where an element hangs
-			      on a flag, the flag in `elements` says whether it is counted */
+	uint8_t width;     /* bits of its dependent elements, by 9.4 and 9.5: 8 for DM-SDS DATA, message type 23. Where an
+			      element hangs on a flag, the flag in `elements` says whether it is counted */
 	uint64_t elements; /* the elements as one run of `width` bits, the first of them highest */
 };
 
