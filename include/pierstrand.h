@@ -152,7 +152,7 @@ struct pierstrand_due {
 /* What a report came to. */
 struct pierstrand_answer {
 	uint8_t outcome; /* enum pierstrand_outcome */
-	uint8_t dropped; /* 1 where an open assembly ended here without being handed over; outcomes 2 and 4 never have it */
+	uint8_t dropped; /* 1 where an open assembly ended here without being handed over */
 	uint8_t fault;   /* enum pierstrand_fault: of the report, or of the block that it brought; then the outcome is 0 */
 	size_t bits;     /* of the message that is handed over, outcome 1 or 2; otherwise 0 */
 	struct pierstrand_fields fields; /* of its header; otherwise 0 */

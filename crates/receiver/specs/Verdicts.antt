@@ -58,22 +58,27 @@ headerVerdict outcome dropped act count from n x raw =
       fields = x .fields;
     }
 
--- The due block was not heard: the assembly ends. A block that is not due changes nothing.
+-- The due block was not heard: the assembly ends, and the mark tells of it.
 abbrev pub missedFor : ℕ → Verdict
 missedFor fault = verdictOf 0 1 fault 1 0 0
 
+-- A block that is not due changes nothing.
 abbrev pub passedFor : ℕ → ℕ → Verdict
 passedFor lost fault = verdictOf 0 lost fault 0 0 0
 
+-- Nothing was heard, or a block with a fault.
 abbrev pub nothingFor : Bool → ℕ → ℕ → Verdict
 nothingFor due fault lost = cond due (missedFor fault) (passedFor lost fault)
 
+-- A DMAC-FRAG: kept where it is due and not the last one to come (`full`).
 abbrev pub fragFor : Bool → Bool → ℕ → ℕ → ℕ → Verdict
 fragFor due full from n lost = cond due (cond full (missedFor 0) (verdictOf 4 lost 0 3 from n)) (passedFor lost 0)
 
+-- A DMAC-END: it hands over where it is due and the last one to come.
 abbrev pub endFor : Bool → Bool → ℕ → ℕ → ℕ → Verdict
 endFor due full from n lost = cond due (cond full (verdictOf 2 lost 0 1 from n) (missedFor 0)) (passedFor lost 0)
 
+-- A fragmented header opens an assembly where it is for this unit, and ends an open one in any case.
 abbrev pub fragmentedFor : Bool → ℕ → read.Header → List ℕ → Verdict
 fragmentedFor meant mark x raw = cond meant (headerVerdict 3 mark 2 (x .count) (x .first) (x .bits) x raw) (verdictOf 0 mark 0 1 0 0)
 
@@ -83,6 +88,7 @@ unfragmentedFor due meant copied lost x raw =
     let p = nothingFor due 0 lost in
     cond meant (cond copied (headerVerdict 5 (p .dropped) (p .act) 0 0 0 x raw) (headerVerdict 1 (p .dropped) (p .act) 0 (x .first) (x .bits) x raw)) p
 
+-- A header, by what it reads as.
 unfoldable pub headerFor : Receiver → ℕ → ℕ → List ℕ → List ℕ → ℕ → Verdict
 headerFor r frame slot s h lost =
     let x = readReported frame slot s h in
@@ -92,6 +98,7 @@ headerFor r frame slot s h lost =
     (unfragmentedFor (dueIn (r .assembly) frame slot) meant (copiedBy (r .nearest) (without 12 h) (x .countdown)) lost x (without 12 h)))
     (nothingFor (dueIn (r .assembly) frame slot) (x .fault) lost)
 
+-- A continuation, by what it reads as.
 unfoldable pub blockFor : Receiver → ℕ → ℕ → List ℕ → ℕ → Verdict
 blockFor r frame slot b lost =
     let x = readContinuation b in
@@ -118,10 +125,11 @@ facedBy r fault frame slot = cond (eqb fault 0) (agedReceiver r frame slot) r
 abbrev pub skippedFor : ℕ → ℕ → ℕ
 skippedFor fault kind = cond (eqb fault 0) (cond (eqb kind 2) 8 0) 0
 
+-- The nearest header: this one, where the verdict says so.
 abbrev pub nearestAfter : Verdict → Nearest → Nearest
 nearestAfter v n = cond (eqb (v .near) 1) (nearestFrom (v .raw) (v .countdown)) n
 
--- An assembly but for its store, and with one.
+-- An assembly but for its store.
 abbrev pub openIn : Assembly → Open
 openIn a =
     record {
@@ -136,6 +144,7 @@ openIn a =
       bits = a .bits;
     }
 
+-- It with a store.
 abbrev pub withStore : Open → List ℕ → Assembly
 withStore o store =
     record {
@@ -151,6 +160,7 @@ withStore o store =
       store = store;
     }
 
+-- The one that a header opens.
 abbrev pub openedAs : Verdict → ℕ → Open
 openedAs v frame =
     record {
@@ -165,6 +175,7 @@ openedAs v frame =
       bits = v .bits;
     }
 
+-- It with one block more, of `n` bits.
 abbrev pub keptAs : ℕ → Open → Open
 keptAs n o =
     record {
@@ -179,12 +190,15 @@ keptAs n o =
       bits = o .bits + n;
     }
 
+-- What becomes of it, by `act`: 0 it stays, 1 it ends, 2 one is opened, 3 it takes the block.
 abbrev pub openAfter : Verdict → ℕ → Open → Open
 openAfter v frame o = cond (eqb (v .act) 0) o (cond (eqb (v .act) 1) (openIn noAssembly) (cond (eqb (v .act) 2) (openedAs v frame) (keptAs (v .bits) o)))
 
+-- What becomes of its store.
 abbrev pub storeAfter : ℕ → ℕ → List Bool → List ℕ → List ℕ
 storeAfter act at m store = cond (eqb act 0) store (cond (eqb act 3) (joinedTo store at m) (cond (eqb act 2) (joinedTo (storeOf []) 0 m) (replicate 512 0)))
 
+-- The answer: the header's message (1), the joined one (2), or none.
 abbrev pub answerTo : Verdict → ℕ → Fields → Answer
 answerTo v at fields =
     cond (eqb (v .outcome) 1)
@@ -192,6 +206,7 @@ answerTo v at fields =
     (cond (eqb (v .outcome) 2) (record { outcome = 2; dropped = v .dropped; fault = 0; bits = at + v .bits; fields = fields })
     (plainAnswer (v .outcome) (v .dropped) (v .fault)))
 
+-- The lent buffer after it.
 abbrev pub toldOver : ℕ → ℕ → ℕ → List Bool → List ℕ → List ℕ → List ℕ
 toldOver outcome n at m store old =
     cond (eqb outcome 1) (firstOver n (joinedTo (storeOf []) 0 m) old) (cond (eqb outcome 2) (firstOver (at + n) (joinedTo store at m) old) old)
@@ -200,6 +215,7 @@ toldOver outcome n at m store old =
 abbrev pub bitsFor : Verdict → List ℕ → List Bool
 bitsFor v part = take (v .bits) (drop (v .from) (bitsOf part))
 
+-- The reply of a receiver to a report that it has judged.
 unfoldable pub performed : Receiver → Verdict → ℕ → List ℕ → Reply
 performed r v frame part =
     let a = r .assembly in
@@ -213,6 +229,7 @@ performed r v frame part =
       answer = answerTo v (a .bits) (a .fields);
     }
 
+-- The lent buffer after that reply.
 unfoldable pub performedOver : Receiver → Verdict → List ℕ → List ℕ → List ℕ
 performedOver r v part old = toldOver (v .outcome) (v .bits) (r .assembly .bits) (bitsFor v part) (r .assembly .store) old
 
