@@ -76,7 +76,8 @@ def answer(call, x=0, y=0, z=0, v=0, s=b"", t=b""):
 def record(call, x=0, y=0, z=0, v=0, s=b"", t=b""):
     numbers = b"".join(n.to_bytes(2, "little") for n in (x, y, z)) + v.to_bytes(8, "little")
     number = CALLS.index(call) + 1 if call in CALLS else int(call)
-    return bytes([number]) + numbers + bytes([len(s), len(t)]) + s + t
+    body = numbers + bytes([len(s)]) + s + t
+    return (2 + len(body)).to_bytes(2, "little") + number.to_bytes(2, "little") + body
 
 
 def parts(widths, values):

@@ -1,11 +1,19 @@
-// A call of each function of `bits`, where the record's numbers are in the range that it asks for.
+// A call of each function of `bits`, where its numbers are in the range that it asks for.
 ghost use mathlib.Core.Path.{_≡_};
-ghost use Prim.Native.Nat.{_*_, _^_, _≤_, _<_};
+ghost use Prim.Native.Nat.{_*_, _^_, _≤_};
 ghost use lib.ListN.{length};
 use crate::parts;
 use crate::parts::Size;
-use crate::print;
 use bits::Found;
+
+// What a call answers: a number; the bytes that it changed; `none`; that it does not take these numbers; or there is no such call.
+pub enum Said {
+    Number(u64),
+    Bytes,
+    Nothing,
+    Range,
+    Unknown,
+}
 
 // How many bits of `s` a place may be among.
 fn reach(s: &[u8]) -> usize
@@ -18,156 +26,145 @@ fn reach(s: &[u8]) -> usize
     }
 }
 
-pub(crate) fn get(s: &[u8], x: u16, y: u16) {
-    let at = x as usize;
-    let w = y as usize;
+pub(crate) fn get(s: &[u8], at: usize, w: usize) -> Said
+    requires { ⌜ at ≤ 65535 ⌝ }
+{
     if 56 < w {
-        return print::range();
+        return Said::Range;
     }
     if reach(s) < at + w {
-        return print::range();
+        return Said::Range;
     }
-    print::number(bits::get(s, at, w));
+    Said::Number(bits::get(s, at, w))
 }
 
-pub(crate) fn get8(s: &[u8], x: u16, y: u16) {
-    let at = x as usize;
-    let w = y as usize;
+pub(crate) fn get8(s: &[u8], at: usize, w: usize) -> Said
+    requires { ⌜ at ≤ 65535 ⌝ }
+{
     if 8 < w {
-        return print::range();
+        return Said::Range;
     }
     if reach(s) < at + w {
-        return print::range();
+        return Said::Range;
     }
-    print::number(bits::get8(s, at, w) as u64);
+    Said::Number(bits::get8(s, at, w) as u64)
 }
 
-pub(crate) fn get32(s: &[u8], x: u16, y: u16) {
-    let at = x as usize;
-    let w = y as usize;
+pub(crate) fn get32(s: &[u8], at: usize, w: usize) -> Said
+    requires { ⌜ at ≤ 65535 ⌝ }
+{
     if 32 < w {
-        return print::range();
+        return Said::Range;
     }
     if reach(s) < at + w {
-        return print::range();
+        return Said::Range;
     }
-    print::number(bits::get32(s, at, w) as u64);
+    Said::Number(bits::get32(s, at, w) as u64)
 }
 
-pub(crate) fn put(out: &mut [u8], x: u16, y: u16, v: u64) {
-    let at = x as usize;
-    let w = y as usize;
+pub(crate) fn put(out: &mut [u8], at: usize, w: usize, v: u64) -> Said
+    requires { ⌜ at ≤ 65535 ⌝ }
+{
     if 56 < w {
-        return print::range();
+        return Said::Range;
     }
     if reach(out) < at + w {
-        return print::range();
+        return Said::Range;
     }
     let kept = parts::low(v, w);
     if kept != v {
-        return print::range();
+        return Said::Range;
     }
     bits::put(out, at, w, kept);
-    print::bytes(out);
+    Said::Bytes
 }
 
-fn put_parts(out: &mut [u8], at: usize, widths: &[u8], values: &[u64])
-    requires { ⌜ (at < 65536) × (length (now widths) ≡ length (now values)) × (length (now widths) ≤ 32) ⌝ }
+fn put_parts(out: &mut [u8], at: usize, widths: &[u8], values: &[u64]) -> Said
+    requires { ⌜ (at ≤ 65535) × (length (now widths) ≡ length (now values)) × (length (now widths) ≤ 32) ⌝ }
 {
     let Size::Bits(n) = parts::measure(widths, values) else {
-        return print::range();
+        return Said::Range;
     };
     if reach(out) < at + n {
-        return print::range();
+        return Said::Range;
     }
     bits::put_all(out, at, widths, values);
-    print::bytes(out);
+    Said::Bytes
 }
 
 // The parts in `t`: a byte for each width, and after these eight bytes for each value.
-pub(crate) fn put_all(out: &mut [u8], x: u16, t: &[u8]) {
-    let at = x as usize;
+pub(crate) fn put_all(out: &mut [u8], at: usize, t: &[u8]) -> Said
+    requires { ⌜ at ≤ 65535 ⌝ }
+{
     let n = t.len() / 9;
     if 32 < n {
-        return print::range();
+        return Said::Range;
     }
     let mut values = [0u64; 32];
     parts::values(t, n, &mut values);
-    put_parts(out, at, &t[..n], &values[..n]);
+    put_parts(out, at, &t[..n], &values[..n])
 }
 
-pub(crate) fn copy(src: &[u8], x: u16, dst: &mut [u8], y: u16, z: u16) {
-    let from = x as usize;
-    let to = y as usize;
-    let n = z as usize;
+pub(crate) fn copy(src: &[u8], from: usize, dst: &mut [u8], to: usize, n: usize) -> Said
+    requires { ⌜ (from ≤ 65535) × (to ≤ 65535) × (n ≤ 65535) ⌝ }
+{
     if reach(src) < from + n {
-        return print::range();
+        return Said::Range;
     }
     if reach(dst) < to + n {
-        return print::range();
+        return Said::Range;
     }
     bits::copy(src, from, dst, to, n);
-    print::bytes(dst);
+    Said::Bytes
 }
 
-pub(crate) fn clear(out: &mut [u8], x: u16, y: u16) {
-    let from = x as usize;
-    let to = y as usize;
+pub(crate) fn clear(out: &mut [u8], from: usize, to: usize) -> Said {
     if to < from {
-        return print::range();
+        return Said::Range;
     }
     if reach(out) < to {
-        return print::range();
+        return Said::Range;
     }
     bits::clear(out, from, to);
-    print::bytes(out);
+    Said::Bytes
 }
 
-pub(crate) fn fill(out: &mut [u8], x: u16, y: u16) {
-    let from = x as usize;
-    let to = y as usize;
+pub(crate) fn fill(out: &mut [u8], from: usize, to: usize) -> Said {
     if to < from {
-        return print::range();
+        return Said::Range;
     }
     if reach(out) < to {
-        return print::range();
+        return Said::Range;
     }
     bits::fill(out, from, to);
-    print::bytes(out);
+    Said::Bytes
 }
 
-pub(crate) fn last_one(s: &[u8], x: u16, y: u16) {
-    let from = x as usize;
-    let to = y as usize;
+pub(crate) fn last_one(s: &[u8], from: usize, to: usize) -> Said {
     if to < from {
-        return print::range();
+        return Said::Range;
     }
     if reach(s) < to {
-        return print::range();
+        return Said::Range;
     }
     match bits::last_one(s, from, to) {
-        Found::At(i) => {
-            print::number(i as u64);
-        }
-        Found::Nothing => {
-            print::word(b"none\n");
-        }
+        Found::At(i) => Said::Number(i as u64),
+        Found::Nothing => Said::Nothing,
     }
 }
 
-// A DMAC-END that carries `y` bits of `t` from bit `x` on: PDU type 01, subtype 1, fill indication 1, the bits, fill up to bit 268.
-pub(crate) fn end(t: &[u8], x: u16, y: u16) {
-    let from = x as usize;
-    let n = y as usize;
+// A DMAC-END that carries `n` bits of `t` from bit `from` on: PDU type 01, subtype 1, fill indication 1, the bits, fill up to bit 268.
+pub(crate) fn end(block: &mut [u8], t: &[u8], from: usize, n: usize) -> Said
+    requires { ⌜ (34 ≤ length (now block)) × (from ≤ 65535) ⌝ }
+{
     if 263 < n {
-        return print::range();
+        return Said::Range;
     }
     if reach(t) < from + n {
-        return print::range();
+        return Said::Range;
     }
-    let mut block = [0u8; 34];
-    bits::put_all(&mut block, 0, &[2, 1, 1], &[1, 1, 1]);
-    bits::copy(t, from, &mut block, 4, n);
-    bits::fill(&mut block, 4 + n, 268);
-    print::bytes(&block);
+    bits::put_all(block, 0, &[2, 1, 1], &[1, 1, 1]);
+    bits::copy(t, from, block, 4, n);
+    bits::fill(block, 4 + n, 268);
+    Said::Bytes
 }

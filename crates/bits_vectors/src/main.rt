@@ -1,68 +1,129 @@
 // Answers call records on `bits` from standard input, a line for each: what the stored vectors are run by.
 //
-// A record is a head of 17 bytes and two runs of lent bytes after it. Numbers have their low byte first.
-//     0        the call, 1 to 10
-//     1 3 5    three numbers of two bytes: x, y, z
-//     7        a value of eight bytes: v
-//     15 16    the lengths of the two runs, a byte each: s, t
+// A record is two bytes length of what follows, two bytes kind, body; numbers have their low byte first. The kind is the call, 1 to 10, and the body:
+//     0 2 4    three numbers of two bytes: x, y, z
+//     6        a value of eight bytes: v
+//     14       the length of the first of two runs of lent bytes, a byte
+//     15       the two runs: s, and t, the rest
 // The calls, and what each writes on its line:
 //     1 get(s, x, y)   2 get8(s, x, y)   3 get32(s, x, y)    the number
 //     4 put(s, x, y, v)   5 put_all(s, x, the parts in t)   6 copy(t, x, s, y, z)   7 clear(s, x, y)   8 fill(s, x, y)    the bytes of s
 //     9 last_one(s, x, y)    the place, or `none`
 //     10 a DMAC-END that carries the y bits of t from bit x on, and fill    its 34 bytes
 // `range` stands for what `bits` does not take, `call` for a call that there is not, and `cut` for a record that the
-// input cuts off; nothing is read after that.
+// input cuts off or that is shorter than its runs; nothing is read after that.
 mod calls;
 mod parts;
-mod print;
 
-fn two(low: u8, high: u8) -> u16 {
-    (low as u16) | ((high as u16) << 8)
+ghost use Prim.Native.Nat.{_+_, _≤_};
+ghost use lib.ListN.{length};
+use crate::calls::Said;
+use crate::parts::index;
+use lines::input::Taken;
+use lines::line;
+
+// The number of two bytes of a body.
+fn number(body: &[u8], at: usize) -> usize
+    requires { ⌜ at + 2 ≤ length (now body) ⌝ }
+    ensures { λ r. ⌜ r ≤ 65535 ⌝ }
+{
+    records::two_at(body, at) as usize
 }
 
-fn answer(head: &[u8; 17], s: &mut [u8], t: &[u8]) {
-    let x = two(head[1], head[2]);
-    let y = two(head[3], head[4]);
-    let z = two(head[5], head[6]);
-    let call = head[0];
+// Makes a call on the runs `s` and `t`.
+fn answer(call: u16, body: &[u8], s: &mut [u8], t: &[u8]) -> Said
+    requires { ⌜ 15 ≤ length (now body) ⌝ }
+{
+    let x = number(body, 0);
+    let y = number(body, 2);
     match call {
         1 => calls::get(s, x, y),
         2 => calls::get8(s, x, y),
         3 => calls::get32(s, x, y),
-        4 => calls::put(s, x, y, parts::eight(head, 7)),
+        4 => calls::put(s, x, y, records::eight(body, 6)),
         5 => calls::put_all(s, x, t),
-        6 => calls::copy(t, x, s, y, z),
+        6 => calls::copy(t, x, s, y, number(body, 4)),
         7 => calls::clear(s, x, y),
         8 => calls::fill(s, x, y),
         9 => calls::last_one(s, x, y),
-        10 => calls::end(t, x, y),
-        _ => print::word(b"call\n"),
+        _ => Said::Unknown,
     }
 }
 
+// The line of an answer, whose bytes are those of `s`.
+fn line_of(said: Said, s: &[u8], out: &mut [u8]) -> usize
+    requires { ⌜ (length (now s) ≤ 255) × (1024 ≤ length (now out)) ⌝ }
+    ensures { λ r. ⌜ r ≤ length (now (out .exit)) ⌝ }
+{
+    match said {
+        Said::Number(n) => line::number(out, n),
+        Said::Bytes => line::bytes(out, s),
+        Said::Nothing => text::copy(out, 0, b"none\n"),
+        Said::Range => text::copy(out, 0, b"range\n"),
+        Said::Unknown => text::copy(out, 0, b"call\n"),
+    }
+}
+
+fn told(said: Said, s: &[u8]) -> bool
+    requires { ⌜ length (now s) ≤ 255 ⌝ }
+{
+    let mut out = [0u8; 1024];
+    let n = line_of(said, s, &mut out);
+    line::say(&out, n)
+}
+
+// A DMAC-END in a block of its own.
+fn end(body: &[u8], t: &[u8]) -> bool
+    requires { ⌜ 15 ≤ length (now body) ⌝ }
+{
+    let mut block = [0u8; 34];
+    let said = calls::end(&mut block, t, number(body, 0), number(body, 2));
+    told(said, &block)
+}
+
+// Any other call, on a copy of the first run in `s`.
+fn call(kind: u16, body: &[u8], s: &mut [u8], t: &[u8]) -> bool
+    requires { ⌜ (15 + length (now s) ≤ length (now body)) × (length (now s) ≤ 255) ⌝ }
+{
+    let end = 15 + s.len();
+    text::copy(s, 0, &body[15..end]);
+    let said = answer(kind, body, s, t);
+    told(said, s)
+}
+
+// Answers a record; false where it is cut off, or nobody takes the line. The first run is copied to `room`.
+fn answered(kind: u16, body: &[u8], room: &mut [u8]) -> bool
+    requires { ⌜ 255 ≤ length (now room) ⌝ }
+{
+    if body.len() < 15 {
+        return line::cut();
+    }
+    let n = index(body[14]);
+    if body.len() < 15 + n {
+        return line::cut();
+    }
+    let t = &body[15 + n..];
+    if kind == 10 {
+        return end(body, t);
+    }
+    call(kind, body, &mut room[0..n], t)
+}
+
 // Reads one record and answers it; false where there is none, or it is cut off.
-fn record() -> bool {
-    let mut head = [0u8; 17];
-    let got = io::read_full(libc::STDIN_FILENO, &mut head);
-    if got == 0 {
-        return false;
+fn next() -> bool {
+    let mut body = io::buffer();
+    let mut room = [0u8; 255];
+    match lines::input::take(&mut body) {
+        Taken::Record(kind, n) => answered(kind, &body[..n], &mut room),
+        Taken::Cut => line::cut(),
+        Taken::End => false,
     }
-    let mut s = [0u8; 256];
-    let mut t = [0u8; 256];
-    let n = stdin::fill(&mut s, parts::index(head[15]));
-    let m = stdin::fill(&mut t, parts::index(head[16]));
-    if got < 17 || n < parts::index(head[15]) || m < parts::index(head[16]) {
-        print::word(b"cut\n");
-        return false;
-    }
-    answer(&head, &mut s[..n], &t[..m]);
-    true
 }
 
 // A proved loop has to end, and nothing says that the input does: the turns are counted down from more than a run takes.
 fn main() {
     let mut turns = u64::MAX;
-    while 0 < turns && record() {
+    while 0 < turns && next() {
         turns -= 1;
     }
 }

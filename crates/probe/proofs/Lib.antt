@@ -1,4 +1,2 @@
--- The laws of lines.
-pub mod Printing
-pub mod Outputs
+-- The laws of what is told of a record.
 pub mod Telling

@@ -1,4 +1,2 @@
 -- The definitions that the contracts of `probe` cite.
-pub mod Body
-pub mod Lines
-pub mod Reports
+pub mod Tells

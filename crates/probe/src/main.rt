@@ -21,21 +21,14 @@
 // 5A, else 0.
 // What a body has more than its kind takes is left alone. Another kind, or a buffer or an output above 1,024, prints `kind`, and is skipped. A
 // record that is cut off, has a length below 2 or a body above 4,096 bytes, or is shorter than its kind, prints `cut`, and nothing is read after it.
-mod body;
-mod calls;
-mod input;
-mod print;
-mod reports;
-
 ghost use Prim.Native.Nat.{_≤_};
 ghost use lib.ListN.{length};
 ghost use Rattle.receiver.specs.Reached.{Reached};
-ghost use Rattle.probe.specs.Lines.{Says, recordLine};
-ghost use Rattle.probe.specs.Reports.{Tells, Kept};
-use crate::input::Taken;
-use crate::print::Line;
-use crate::reports::Told;
-use libc::STDOUT_FILENO;
+ghost use Rattle.probe.specs.Tells.{Tells, Kept};
+use lines::input::Taken;
+use lines::line;
+use lines::line::Line;
+use probe_reports::Told;
 use receiver::Receiver;
 
 // The receiver after a record, and whether another is to be read.
@@ -44,38 +37,19 @@ struct Step {
     more: bool,
 }
 
-// The line of a record that leaves the receiver alone.
-fn answer(kind: u16, body: &[u8], line: &mut [u8]) -> Line
-    requires { ⌜ 4096 ≤ length (now line) ⌝ }
-    ensures { λ r. ⌜ Says (now (line .entry)) (recordLine kind (now (body .entry))) (now (line .exit)) r ⌝ }
-{
-    match kind {
-        5 => calls::build(body, line),
-        6 => calls::header(body, line),
-        7 => calls::block(body, line),
-        8 => calls::frame(body, line),
-        _ => calls::unknown(line),
-    }
-}
-
 // The line of any record, and the receiver after it.
 fn tell(before: Receiver, kind: u16, body: &[u8], line: &mut [u8]) -> Told
     requires { ⌜ Reached before × (4096 ≤ length (now line)) ⌝ }
     ensures { λ t. ⌜ Reached (t .receiver) × Tells before kind (now (body .entry)) (now (line .entry)) (now (line .exit)) t ⌝ }
 {
     match kind {
-        0 => reports::unit(before, body, line),
-        4 => reports::report(before, body, line),
+        0 => probe_reports::unit(before, body, line),
+        4 => probe_reports::report(before, body, line),
         _ => Told {
             receiver: before,
-            line: answer(kind, body, line),
+            line: probe_blocks::answer(kind, body, line),
         },
     }
-}
-
-fn cut() -> bool {
-    io::write_all(STDOUT_FILENO, b"cut\n");
-    false
 }
 
 // Answers a record.
@@ -83,19 +57,19 @@ fn answered(before: Receiver, kind: u16, body: &[u8]) -> Step
     requires { ⌜ Reached before ⌝ }
     ensures { λ s. ⌜ Reached (s .receiver) × Kept before kind (now (body .entry)) (s .receiver) ⌝ }
 {
-    let mut line = [0u8; 4096];
-    let told = tell(before, kind, body, &mut line);
+    let mut out = [0u8; 4096];
+    let told = tell(before, kind, body, &mut out);
     let receiver = told.receiver;
     let said = told.line;
     let Line::Bytes(n) = said else {
         return Step {
             receiver,
-            more: cut(),
+            more: line::cut(),
         };
     };
     Step {
         receiver,
-        more: io::write_all(STDOUT_FILENO, &line[..n]),
+        more: line::say(&out, n),
     }
 }
 
@@ -104,11 +78,11 @@ fn next(before: Receiver) -> Step
     ensures { λ s. ⌜ Reached (s .receiver) ⌝ }
 {
     let mut body = io::buffer();
-    match input::take(&mut body) {
+    match lines::input::take(&mut body) {
         Taken::Record(kind, n) => answered(before, kind, &body[..n]),
         Taken::Cut => Step {
             receiver: before,
-            more: cut(),
+            more: line::cut(),
         },
         Taken::End => Step {
             receiver: before,

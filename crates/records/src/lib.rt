@@ -2,13 +2,21 @@
 ghost use mathlib.Core.Path.{_≡_};
 ghost use Prim.Native.Nat.{_+_, _*_, _≤_};
 ghost use lib.ListN.{length};
-ghost use Rattle.records.specs.Numbers.{fourAt, eightAt};
+ghost use Rattle.records.specs.Numbers.{twoAt, fourAt, eightAt};
 
 // The number of two bytes.
 pub fn two(low: u8, high: u8) -> u16
     ensures { λ r. ⌜ r ≡ low + 256 * high ⌝ }
 {
     (low as u16) + 256 * (high as u16)
+}
+
+// The number of the two bytes of `body` from place `at` on.
+pub fn two_at(body: &[u8], at: usize) -> u16
+    requires { ⌜ at + 2 ≤ length (now body) ⌝ }
+    ensures { λ r. ⌜ r ≡ twoAt (now (body .entry)) at ⌝ }
+{
+    two(body[at], body[at + 1])
 }
 
 // The number of the four bytes of `body` from place `at` on.

@@ -1,5 +1,4 @@
-use native.Mathlib.Omega.{arith}
-use lib.ListN.{replicate, length-take}
+use lib.ListN.{replicate}
 use Rattle.probe.proofs.Telling.{told-fits}
 use borrow.Author.Needs.{needs}
 use Rattle.probe.proofs.answered.Statement.{statement}
@@ -23,14 +22,11 @@ cut-requires c κs = search needs
 returns : tie.Need-returns
 returns c = search needs
 
-array-share-prefix-line : tie.Need-array-share-prefix-line
-array-share-prefix-line c = let a = c .before .before .before .before .before .before .before .before .args in told-fits (a .before) (a .kind) (a .body .now) (replicate 4096 0) _ (c .before .before .before .before .before .tell .result) (c .before .said .given .1) (c .before .before .before .before .before .tell .ensures .1)
+slice-aggregate-say : tie.Need-slice-aggregate-say
+slice-aggregate-say c = search needs
 
-slice-aggregate-write-all : tie.Need-slice-aggregate-write-all
-slice-aggregate-write-all c = let f = array-share-prefix-line (c .before) in simp length-take (omega arith)
-
-write-all-requires : tie.Need-write-all-requires
-write-all-requires c κs = search needs
+say-requires : tie.Need-say-requires
+say-requires c κs = let a = c .before .before .before .before .before .before .before .before .before .args in told-fits (a .before) (a .kind) (a .body .now) (replicate 4096 0) _ (c .before .before .before .before .before .before .tell .result) (c .before .before .said .given .1) (c .before .before .before .before .before .before .tell .ensures .1)
 
 returns-2 : tie.Need-returns-2
 returns-2 c = search needs
@@ -45,7 +41,6 @@ answered-spec =
     enum-told
     cut-requires
     returns
-    array-share-prefix-line
-    slice-aggregate-write-all
-    write-all-requires
+    slice-aggregate-say
+    say-requires
     returns-2)

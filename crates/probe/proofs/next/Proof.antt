@@ -1,4 +1,4 @@
-use Rattle.probe.proofs.Printing.{body-held}
+use Rattle.lines.proofs.Printing.{body-held}
 use borrow.Author.Needs.{needs}
 use Rattle.probe.proofs.next.Statement.{statement}
 use Rattle.probe.proofs.next.Tie as tie

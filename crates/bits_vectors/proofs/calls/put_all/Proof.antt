@@ -4,9 +4,6 @@ use borrow.Author.Needs.{needs}
 use Rattle.bits_vectors.proofs.calls.put_all.Statement.{statement}
 use Rattle.bits_vectors.proofs.calls.put_all.Tie as tie
 
-range-requires : tie.Need-range-requires
-range-requires c κs = search needs
-
 returns : tie.Need-returns
 returns c = search needs
 
@@ -38,7 +35,6 @@ pub put-all-spec : {M : Type 1} → statement M
 put-all-spec =
     tie.close
     (tie.spec
-    range-requires
     returns
     slice-aggregate-values
     values-requires

@@ -13,9 +13,6 @@ enum-known-n c = search needs
 enum-told : tie.Need-enum-told
 enum-told c = search needs
 
-range-requires : tie.Need-range-requires
-range-requires c κs = search needs
-
 returns : tie.Need-returns
 returns c = search needs
 
@@ -28,9 +25,6 @@ add-if1 c =
     let n = c .before .before .before .n .given in
     let m = sized (a .widths .now) (a .values .now) (n .1) (c .before .before .before .before .before .measure .ensures) in
     omega arith
-
-range-requires-2 : tie.Need-range-requires-2
-range-requires-2 c κs = search needs
 
 same-length : tie.Need-same-length
 same-length c = search needs
@@ -45,9 +39,6 @@ put-all-requires c κs =
     let m = sized (a .widths .now) (a .values .now) (n .1) (c .before .before .before .before .before .before .before .measure .ensures) in
     (omega arith, m .narrow, m .fit, record { ordered = omega arith; within = omega arith; near = omega arith })
 
-bytes-requires : tie.Need-bytes-requires
-bytes-requires c κs = search needs
-
 same-length-2 : tie.Need-same-length-2
 same-length-2 c = search needs
 
@@ -61,14 +52,11 @@ put-parts-spec =
     measure-requires
     enum-known-n
     enum-told
-    range-requires
     returns
     reach-requires
     add-if1
-    range-requires-2
     same-length
     returns-2
     put-all-requires
-    bytes-requires
     same-length-2
     returns-3)

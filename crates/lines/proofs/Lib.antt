@@ -1,0 +1,3 @@
+-- The laws of lines.
+pub mod Printing
+pub mod Outputs

@@ -1,0 +1,3 @@
+-- The laws of the calls' lines.
+pub mod Saying
+pub mod Builds

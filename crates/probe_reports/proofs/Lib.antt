@@ -1,0 +1,2 @@
+-- The laws of settings and reports.
+pub mod Telling

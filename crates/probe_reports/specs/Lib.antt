@@ -1,0 +1,2 @@
+-- The definitions that the contracts of `probe_reports` cite.
+pub mod Reports
