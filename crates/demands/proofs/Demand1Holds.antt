@@ -15,7 +15,8 @@ use Rattle.build.specs.Build.{builtAs, buildOf, outOf}
 use Rattle.blocks.specs.declared.header.Header.{Header}
 use Rattle.blocks.specs.declared.continuation.Continuation.{Continuation}
 use Rattle.blocks.proofs.FaultLaws.{given-first}
-use Rattle.receiver.specs.Held.{newReceiver, settingsFit, freshOf}
+use Rattle.reports.specs.Units.{settingsFit}
+use Rattle.receiver.specs.Held.{newReceiver, freshOf}
 use Rattle.receiver.specs.declared.Fresh.{Fresh}
 use Rattle.demands.specs.Demand1.{Settles, rules, Demand1}
 use Rattle.demands.specs.Demand2 as build

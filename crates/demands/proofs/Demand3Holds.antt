@@ -11,10 +11,11 @@ use Rattle.history.specs.Line.{Line, start}
 use Rattle.history.specs.Slots.{no-fields, Report}
 use Rattle.history.specs.History.{History, Closes, Singles, Opens, Keeps, Copies, Told, nothing-told, single-told, joined-told, opened-told, kept-told, copy-told}
 use Rattle.history.proofs.Theorems.{theorem-unique, theorem-once}
-use Rattle.receiver.specs.Lent.{Lent}
-use Rattle.receiver.specs.Held.{settingsFit, newReceiver}
+use Rattle.reports.specs.Lent.{Lent}
+use Rattle.reports.specs.Units.{settingsFit}
+use Rattle.reports.specs.declared.unit.Settings.{Settings}
+use Rattle.receiver.specs.Held.{newReceiver}
 use Rattle.receiver.specs.Reached.{Leads, Answered}
-use Rattle.receiver.specs.declared.unit.Settings.{Settings}
 use Rattle.receiver.specs.declared.Receiver.{Receiver}
 use Rattle.receiver.specs.declared.Fresh.{Fresh}
 use Rattle.receiver.proofs.ReplyLaws.{handed-none}

@@ -6,10 +6,10 @@ use Prim.Native.Nat.{ℕ, suc}
 use Rattle.history.specs.Line.{Line, start, _▸_}
 use Rattle.history.specs.Slots.{Report}
 use Rattle.history.specs.History.{History}
-use Rattle.receiver.specs.Lent.{Lent}
+use Rattle.reports.specs.Lent.{Lent}
+use Rattle.reports.specs.declared.unit.Settings.{Settings}
 use Rattle.receiver.specs.Held.{freshOf}
 use Rattle.receiver.specs.Reached.{reportOf, reports, refusedWith, Hears}
-use Rattle.receiver.specs.declared.unit.Settings.{Settings}
 use Rattle.receiver.specs.declared.answer.Answer.{Answer}
 use Rattle.receiver.specs.declared.Receiver.{Receiver}
 use Rattle.receiver.specs.declared.Reply.{Reply}

@@ -13,8 +13,9 @@ use Rattle.blocks.specs.Sync.{syncOf, syncChecks}
 use Rattle.blocks.specs.Header.{placeRules, bodyChecks, refusedHeader, readHeader, readReported}
 use Rattle.blocks.specs.Continuation.{continuationChecks, refusedBlock, readContinuation}
 use Rattle.blocks.specs.Slots.{dueChecks, dueOf}
-use Rattle.receiver.specs.Lent.{reportRules, faultIn}
-use Rattle.receiver.specs.Held.{plainAnswer, newReceiver, settingsFit, freshOf}
+use Rattle.reports.specs.Lent.{reportRules, faultIn}
+use Rattle.reports.specs.Units.{settingsFit}
+use Rattle.receiver.specs.Held.{plainAnswer, newReceiver, freshOf}
 use Rattle.demands.specs.Demand2 as build
 use Rattle.demands.specs.Calls.{Call, answer}
 

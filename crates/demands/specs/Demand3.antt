@@ -3,7 +3,7 @@
 -- of block, the last kind in the last one only. What is handed over is that run's header fields and bits in order, once. Well-formed unfragmented messages for
 -- this unit are handed over exactly when they are not copies as document 01 defines them.
 -- `Closes`, `Singles`, `Opens`, `Keeps`, `Copies` and `Drops` are read off the history of accepted reports, in crates/history/specs/History.antt; what a report
--- brings is read off its lent bytes, in crates/receiver/specs/Lent.antt. Neither runs a receiver.
+-- brings is read off its lent bytes, in crates/reports/specs/Lent.antt. Neither runs a receiver.
 use mathlib.Core.Path.{_≡_}
 use mathlib.Core.Logic.{_↔_}
 use mathlib.Core.Bool.{Bool}
@@ -15,7 +15,7 @@ use Rattle.blocks.specs.declared.header.Fields.{Fields}
 use Rattle.history.specs.Line.{_▸_, _⧺_, Every}
 use Rattle.history.specs.Slots.{no-fields, Report}
 use Rattle.history.specs.History.{History, NotFragmented, Closes, Singles, Opens, Keeps, Copies, Drops}
-use Rattle.receiver.specs.Lent.{faultIn}
+use Rattle.reports.specs.Lent.{faultIn}
 use Rattle.receiver.specs.Held.{plainAnswer}
 use Rattle.receiver.specs.Reached.{refusedWith, receiverAt}
 use Rattle.demands.specs.Calls.{Call, history, now, answer}

@@ -10,9 +10,9 @@ use Rattle.blocks.specs.Sync.{syncOf, syncChecks}
 use Rattle.blocks.specs.Header.{fragmentedIn, toIn, fromIn, messageIn, widthIn, bodyOf, readReported}
 use Rattle.blocks.specs.Continuation.{readContinuation}
 use Rattle.history.specs.Step.{State, number, message-of, fresh, step, answer}
-use Rattle.receiver.specs.Lent.{heard, faultIn}
+use Rattle.reports.specs.Lent.{heard, faultIn}
+use Rattle.reports.specs.declared.unit.Settings.{Settings}
 use Rattle.receiver.specs.Reached.{reportOf}
-use Rattle.receiver.specs.declared.unit.Settings.{Settings}
 use Rattle.demands.specs.Examples.{Example, AllHold, hold}
 use Rattle.demands.specs.RunRows.{Row}
 use Rattle.demands.specs.RunTable.{table}

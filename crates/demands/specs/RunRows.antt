@@ -4,7 +4,7 @@ use mathlib.Core.List.{List}
 use Prim.Native.Nat.{ℕ, _*_}
 use lib.Dec.{eqb}
 use Rattle.bits.specs.Bits.{bitsN, bytesN}
-use Rattle.receiver.specs.Lent.{Lent}
+use Rattle.reports.specs.Lent.{Lent}
 
 -- `told`: outcome, dropped, fault, bits.
 pub record Row : Type 0 where

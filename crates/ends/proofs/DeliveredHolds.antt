@@ -8,9 +8,9 @@ use Rattle.history.specs.Slots.{next}
 use Rattle.history.specs.History.{History, final, Copies}
 use Rattle.history.specs.Step.{Answer, single, joined, answer, after, outcome-at, dropped-at}
 use Rattle.history.proofs.Theorems.{theorem-joined, theorem-single, theorem-dropped}
-use Rattle.receiver.specs.Lent.{Lent, for-unit}
+use Rattle.reports.specs.Lent.{Lent, for-unit}
+use Rattle.reports.specs.declared.unit.Settings.{Settings}
 use Rattle.receiver.specs.Reached.{reportOf, reports}
-use Rattle.receiver.specs.declared.unit.Settings.{Settings}
 use Rattle.demands.specs.Calls as call
 use Rattle.demands.specs.Calls.{Call, history, now}
 use Rattle.demands.specs.Demand3.{Taken, HandsOver}

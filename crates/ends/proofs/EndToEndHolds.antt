@@ -9,9 +9,9 @@ use Rattle.history.specs.Line.{Line, start, _▸_, _⧺_, count}
 use Rattle.history.specs.Slots.{next, Heard, nothing, fragmented, unfragmented, frag, end, Report}
 use Rattle.history.specs.History.{History, final, Copies}
 use Rattle.history.specs.Step.{Outcome, Answer, single, joined, opened, copy, answer, after, outcome-at}
-use Rattle.receiver.specs.Lent.{Lent, for-unit, heard}
+use Rattle.reports.specs.Lent.{Lent, for-unit, heard}
+use Rattle.reports.specs.declared.unit.Settings.{Settings}
 use Rattle.history.specs.declared.Place.{Place}
-use Rattle.receiver.specs.declared.unit.Settings.{Settings}
 use Rattle.history.proofs.Theorems.{theorem-single, theorem-opened, theorem-copy}
 use Rattle.ends.specs.Sent.{in-slot, Sending, at-first, silence, again, block, on-the-way, Repeating, said, unsaid, said-again}
 use Rattle.ends.specs.EndToEnd as law

@@ -53,8 +53,8 @@ use Rattle.store.specs.Store.{halves}
 use Rattle.history.specs.Line.{Line, start, _▸_}
 use Rattle.history.specs.Slots.{Header, Heard, fragmented, unfragmented, frag, end}
 use Rattle.history.specs.History.{join}
-use Rattle.receiver.specs.Lent.{for-unit, rawOf, unfaulted, headerHeard, heard}
-use Rattle.receiver.specs.declared.unit.Settings.{Settings}
+use Rattle.reports.specs.Lent.{for-unit, rawOf, unfaulted, headerHeard, heard}
+use Rattle.reports.specs.declared.unit.Settings.{Settings}
 use Rattle.history.specs.declared.Place.{Place}
 use Rattle.ends.specs.EndToEnd.{Message, bits, k, Build, output, block-in, header-lent, block-lent}
 

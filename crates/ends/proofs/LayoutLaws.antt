@@ -16,9 +16,9 @@ use Rattle.build.proofs.RangeLaws.{InRange, no-fault}
 use Rattle.history.specs.Line.{Line, start, _▸_}
 use Rattle.history.specs.Slots.{next, tick}
 use Rattle.history.specs.History.{final, InTurn, frames}
-use Rattle.receiver.specs.Lent.{Lent, brought, heardSlot}
+use Rattle.reports.specs.Lent.{Lent, brought, heardSlot}
+use Rattle.reports.specs.declared.unit.Settings.{Settings}
 use Rattle.history.specs.declared.Place.{Place}
-use Rattle.receiver.specs.declared.unit.Settings.{Settings}
 use Rattle.receiver.specs.Reached.{reportOf, reports, Accepted}
 use Rattle.ends.specs.EndToEnd.{Message, k, Build, header-slot, header-lent, nothing-lent, due-slot, Sent, first, silence, repeat, block, headers}
 use Rattle.ends.proofs.SentLaws.{slot-after, frame-after}

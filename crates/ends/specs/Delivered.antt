@@ -5,7 +5,7 @@ use Prim.Native.Nat.{ℕ, suc}
 use Rattle.history.specs.Line.{Line, _▸_, _⧺_}
 use Rattle.history.specs.Slots.{next}
 use Rattle.history.specs.History.{final, Copies}
-use Rattle.receiver.specs.Lent.{Lent, for-unit}
+use Rattle.reports.specs.Lent.{Lent, for-unit}
 use Rattle.receiver.specs.Reached.{reports}
 use Rattle.demands.specs.Calls.{Call, history, now, answer}
 use Rattle.demands.specs.Demand3.{Taken, HandsOver}

@@ -16,10 +16,10 @@ use Rattle.history.specs.Line.{Line, start, _▸_, _⧺_}
 use Rattle.history.specs.Slots.{next, due, Report}
 use Rattle.history.specs.History.{History, final, frames, Copies}
 use Rattle.history.specs.Step.{Outcome, quiet, single, joined, opened, kept, copy, answer, after, outcome-at}
-use Rattle.receiver.specs.Lent.{Lent, for-unit}
+use Rattle.reports.specs.Lent.{Lent, for-unit}
+use Rattle.reports.specs.declared.unit.Settings.{Settings}
 use Rattle.receiver.specs.Reached.{reportOf, reports, Accepted}
 use Rattle.history.specs.declared.Place.{Place}
-use Rattle.receiver.specs.declared.unit.Settings.{Settings}
 
 -- ---- What is sent.
 

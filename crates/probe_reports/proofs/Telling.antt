@@ -11,7 +11,7 @@ use lib.Seq.{take-all}
 use borrow.Author.Tests.{le-leb, lt-leb, ne-eqb}
 use Rattle.store.specs.Store.{messageBytes}
 use Rattle.store.proofs.Messages.{length-message}
-use Rattle.receiver.specs.Lent.{Lent, lent}
+use Rattle.reports.specs.Lent.{Lent, lent}
 use Rattle.receiver.specs.Held.{freshOf}
 use Rattle.receiver.specs.Reached.{refusedWith, Reached, Hears}
 use Rattle.receiver.specs.declared.Receiver.{Receiver}

@@ -6,7 +6,7 @@ use mathlib.Core.Option.{Option, none, some}
 use Prim.Native.Nat.{ℕ, _+_, _/_}
 use lib.Dec.{leb}
 use lib.ListN.{length, drop, getD, replicate}
-use Rattle.receiver.specs.Lent.{Lent, lent}
+use Rattle.reports.specs.Lent.{Lent, lent}
 use Rattle.receiver.specs.Held.{freshOf}
 use Rattle.receiver.specs.Reached.{Hears}
 use Rattle.receiver.specs.declared.Receiver.{Receiver}

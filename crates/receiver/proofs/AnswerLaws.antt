@@ -10,10 +10,10 @@ use Rattle.blocks.specs.declared.header.Fields.{Fields}
 use Rattle.history.specs.Line.{Line}
 use Rattle.history.specs.Step.{message-of, outcome-at, dropped-at}
 use Rattle.history.proofs.Theorems.{theorem-told-only, theorem-dropped}
-use Rattle.receiver.specs.Lent.{Lent, faultIn}
+use Rattle.reports.specs.Lent.{Lent, faultIn}
+use Rattle.reports.specs.declared.unit.Settings.{Settings}
 use Rattle.receiver.specs.View.{answerOf}
 use Rattle.receiver.specs.Reached.{reportOf, reports, refusedWith, Reached, Answered, Hears}
-use Rattle.receiver.specs.declared.unit.Settings.{Settings}
 use Rattle.receiver.specs.declared.answer.Answer.{Answer}
 use Rattle.receiver.specs.declared.Receiver.{Receiver}
 use Rattle.receiver.specs.declared.Reply.{Reply}

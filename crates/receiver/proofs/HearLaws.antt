@@ -15,12 +15,13 @@ use Rattle.history.specs.Line.{Line, start, _▸_, Every}
 use Rattle.history.specs.Slots.{Heard, nothing, Report}
 use Rattle.history.specs.History.{History}
 use Rattle.history.specs.Step.{Open, State, message-of, in-turn, still, ends-here, drop-mark, telling, step, answer, after, outcome-at, dropped-at}
-use Rattle.receiver.specs.Lent.{Lent, brought, heardSlot, reportRules, headerIn, headerHeard, blockHeard, heard, faultIn}
-use Rattle.receiver.specs.Held.{passedBy, nothingIn, lostAt, newReceiver, settingsFit}
+use Rattle.reports.specs.Lent.{Lent, brought, heardSlot, reportRules, headerIn, headerHeard, blockHeard, heard, faultIn}
+use Rattle.reports.specs.Units.{settingsFit}
+use Rattle.reports.specs.declared.unit.Settings.{Settings}
+use Rattle.receiver.specs.Held.{passedBy, nothingIn, lostAt, newReceiver}
 use Rattle.receiver.specs.Taken.{headerTo, headerOver, blockTo, blockOver, takenBy, takenOver, repliedBy, repliedOver}
 use Rattle.receiver.specs.View.{assemblyOf, receiverOf, answerOf, replyOf}
 use Rattle.receiver.specs.Reached.{reportOf, reports, refusedWith, Accepted, Leads, Reached, Canonical, closed, assembling, Answered, Hears}
-use Rattle.receiver.specs.declared.unit.Settings.{Settings}
 use Rattle.history.specs.declared.Place.{Place}
 use Rattle.receiver.specs.declared.Receiver.{Receiver}
 use Rattle.receiver.specs.declared.Reply.{Reply}

@@ -17,11 +17,11 @@ use Rattle.blocks.specs.declared.header.Header as read
 use Rattle.blocks.specs.declared.continuation.Continuation.{Continuation}
 use Rattle.history.specs.Slots.{Header, Heard, nothing, fragmented, unfragmented, frag, end}
 use Rattle.history.specs.Step.{Open, Near, State, is-due, is-last, opened, quiet, message-of, frag-out, telling}
-use Rattle.receiver.specs.Lent.{for-unit, rawOf, unfaulted, headerHeard, blockHeard}
+use Rattle.reports.specs.Lent.{for-unit, rawOf, unfaulted, headerHeard, blockHeard}
+use Rattle.reports.specs.declared.unit.Settings.{Settings}
 use Rattle.receiver.specs.Held.{nothingIn, fragIn, endIn, endOver, fragmentedTo, unfragmentedTo, unfragmentedOver}
 use Rattle.receiver.specs.Taken.{headerTo, headerOver, blockTo, blockOver}
 use Rattle.receiver.specs.View.{receiverOf, replyOf}
-use Rattle.receiver.specs.declared.unit.Settings.{Settings}
 use Rattle.history.specs.declared.Place.{Place}
 use Rattle.receiver.specs.declared.Receiver.{Receiver}
 use Rattle.receiver.specs.declared.Reply.{Reply}

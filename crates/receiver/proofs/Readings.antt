@@ -21,7 +21,7 @@ use Rattle.blocks.specs.Continuation.{blockMessage, continuationChecks, continu
 use Rattle.blocks.specs.Continuation as block
 use Rattle.blocks.specs.declared.header.Header as read
 use Rattle.blocks.specs.declared.continuation.Continuation.{Continuation}
-use Rattle.receiver.specs.Lent.{brought}
+use Rattle.reports.specs.Lent.{brought}
 use Rattle.blocks.proofs.FaultLaws.{all-zero, zero-split, holds}
 use Rattle.blocks.proofs.RoomLaws.{refill}
 

@@ -15,10 +15,10 @@ use Rattle.store.proofs.Messages.{handed-first}
 use Rattle.blocks.specs.declared.header.Header as read
 use Rattle.history.specs.Slots.{Header, nothing, fragmented, unfragmented, frag, end}
 use Rattle.history.specs.Step.{Open, Near, State, quiet, kept, joined, opened, message-of, is-due, is-last, unless, adding, keeping, opening, frag-out, end-out, telling, repeats, nearing, is-copy, handing, in-turn, still, still-near}
-use Rattle.receiver.specs.Lent.{for-unit}
+use Rattle.reports.specs.Lent.{for-unit}
+use Rattle.reports.specs.declared.unit.Settings.{Settings}
 use Rattle.receiver.specs.Held.{missedBy, passedBy, nothingIn, keptIn, fragIn, endIn, endOver, plainAnswer, withAssembly, noAssembly, nearestFrom, openedBy, fragmentedTo, copiedBy, withNearest, unfragmentedTo, unfragmentedOver, agedReceiver}
 use Rattle.receiver.specs.View.{receiverOf, nearestOf, assemblyOf, replyOf, answerOf}
-use Rattle.receiver.specs.declared.unit.Settings.{Settings}
 use Rattle.history.specs.declared.Place.{Place}
 use Rattle.receiver.specs.declared.assembly.Assembly.{Assembly}
 use Rattle.receiver.specs.declared.Receiver.{Receiver}

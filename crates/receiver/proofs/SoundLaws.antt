@@ -13,11 +13,12 @@ use Rattle.blocks.specs.Header.{readReported}
 use Rattle.blocks.specs.Continuation.{readContinuation}
 use Rattle.blocks.specs.declared.header.Header as read
 use Rattle.blocks.specs.declared.continuation.Continuation.{Continuation}
-use Rattle.receiver.specs.Lent.{for-unit, brought}
+use Rattle.reports.specs.Lent.{for-unit, brought}
+use Rattle.reports.specs.Rules.{verdictOf, headerVerdict, nothingFor, fragFor, endFor, fragmentedFor, unfragmentedFor}
+use Rattle.reports.specs.declared.verdict.Verdict.{Verdict}
 use Rattle.receiver.specs.Held.{dueIn, droppedBy, copiedBy, agedReceiver, lostAt}
-use Rattle.receiver.specs.Verdicts.{verdictOf, headerVerdict, nothingFor, fragFor, endFor, fragmentedFor, unfragmentedFor, headerFor, blockFor, judgedBy, facedBy, skippedFor, Sound}
+use Rattle.receiver.specs.Verdicts.{headerFor, blockFor, judgedBy, facedBy, skippedFor, Sound}
 use Rattle.receiver.specs.declared.assembly.Assembly.{Assembly}
-use Rattle.receiver.specs.declared.verdict.Verdict.{Verdict}
 use Rattle.receiver.specs.declared.Receiver.{Receiver}
 use Rattle.receiver.proofs.Readings.{WellRead, well-read, well-read-block, in-header, in-continuation, few-bits, two-blocks}
 use Rattle.receiver.proofs.Rooms.{Roomy, aged-room}

@@ -13,14 +13,15 @@ use Rattle.blocks.specs.Header.{readReported}
 use Rattle.blocks.specs.Continuation.{readContinuation}
 use Rattle.blocks.specs.declared.header.Header as read
 use Rattle.blocks.specs.declared.continuation.Continuation.{Continuation}
-use Rattle.receiver.specs.Lent.{for-unit}
+use Rattle.reports.specs.Lent.{for-unit}
+use Rattle.reports.specs.Rules.{nothingFor, fragFor, endFor, fragmentedFor, unfragmentedFor}
+use Rattle.reports.specs.declared.verdict.Verdict.{Verdict}
 use Rattle.receiver.specs.Held.{missedBy, passedBy, keptIn, noAssembly, plainAnswer, withAssembly, withNearest, nearestFrom, openedBy, dueIn, droppedBy, copiedBy, nothingIn, fragIn, endIn, endOver, fragmentedTo, unfragmentedTo, unfragmentedOver, agedReceiver, lostAt}
 use Rattle.receiver.specs.Taken.{headerTo, headerOver, blockTo, blockOver, repliedBy, repliedOver}
-use Rattle.receiver.specs.Verdicts.{nearestAfter, openIn, openAfter, withStore, storeAfter, answerTo, toldOver, bitsFor, nothingFor, fragFor, endFor, fragmentedFor, unfragmentedFor, headerFor, blockFor, judgedBy, facedBy, skippedFor, performed, performedOver}
+use Rattle.receiver.specs.Verdicts.{nearestAfter, openIn, openAfter, withStore, storeAfter, answerTo, toldOver, bitsFor, headerFor, blockFor, judgedBy, facedBy, skippedFor, performed, performedOver}
 use Rattle.receiver.specs.declared.assembly.Assembly.{Assembly}
 use Rattle.receiver.specs.declared.assembly.Open.{Open}
 use Rattle.receiver.specs.declared.nearest.Nearest.{Nearest}
-use Rattle.receiver.specs.declared.verdict.Verdict.{Verdict}
 use Rattle.receiver.specs.declared.answer.Answer.{Answer}
 use Rattle.receiver.specs.declared.Receiver.{Receiver}
 use Rattle.receiver.specs.declared.Reply.{Reply}

@@ -2,22 +2,21 @@
 use mathlib.Core.Bool.{Bool, true, false, cond, _&&_}
 use mathlib.Core.List.{List, []}
 use Prim.Native.Nat.{ℕ, suc, _+_, _-_}
-use lib.Dec.{eqb, leb}
+use lib.Dec.{eqb}
 use lib.ListN.{replicate}
 use Rattle.store.specs.Store.{storeOf, joinedTo, firstOver, same-numbers}
 use Rattle.blocks.specs.Slots.{dueOf}
 use Rattle.blocks.specs.declared.header.Header as read
 use Rattle.history.specs.Slots.{no-fields, follows}
-use Rattle.receiver.specs.Lent.{for-unit}
+use Rattle.reports.specs.Lent.{for-unit}
+use Rattle.reports.specs.Turns.{waned}
+use Rattle.reports.specs.Units.{settingsFit}
 use Rattle.receiver.specs.declared.nearest.Nearest.{Nearest}
 use Rattle.receiver.specs.declared.assembly.Assembly.{Assembly}
 use Rattle.receiver.specs.declared.Receiver.{Receiver}
 use Rattle.receiver.specs.declared.answer.Answer.{Answer}
 use Rattle.receiver.specs.declared.Reply.{Reply}
 use Rattle.receiver.specs.declared.Fresh.{Fresh}
-
-abbrev pub waned : ℕ → ℕ → ℕ
-waned slot n = cond (eqb slot 1) (n - 1) n
 
 abbrev pub noNearest : Nearest
 noNearest = record { held = 0; raw = replicate 2 0; again = 0 }
@@ -206,10 +205,6 @@ newReceiver individual group mni =
       nearest = noNearest;
       assembly = noAssembly;
     }
-
--- Each below 2^24.
-abbrev pub settingsFit : ℕ → ℕ → ℕ → Bool
-settingsFit individual group mni = leb individual 16777215 && (leb group 16777215 && leb mni 16777215)
 
 -- Settings of 2^24 or more are fault 13, and three zeros.
 abbrev pub freshOf : ℕ → ℕ → ℕ → Fresh

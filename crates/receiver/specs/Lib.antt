@@ -1,5 +1,4 @@
--- What a report brings, the history of reports, and the step, in the words of document 01.
-pub mod Lent
+-- The record, the history of reports, and the step, in the words of document 01.
 pub mod Held
 pub mod Taken
 pub mod Verdicts

@@ -11,10 +11,11 @@ use Rattle.history.specs.Line.{Line, _▸_, each, Every}
 use Rattle.history.specs.Slots.{Report}
 use Rattle.history.specs.History.{History, Told, Drops}
 use Rattle.history.specs.Step.{after}
-use Rattle.receiver.specs.Lent.{Lent, reportRules, heard, faultIn}
-use Rattle.receiver.specs.Held.{noAssembly, settingsFit, plainAnswer}
+use Rattle.reports.specs.Lent.{Lent, reportRules, heard, faultIn}
+use Rattle.reports.specs.Units.{settingsFit}
+use Rattle.reports.specs.declared.unit.Settings.{Settings}
+use Rattle.receiver.specs.Held.{noAssembly, plainAnswer}
 use Rattle.receiver.specs.View.{receiverOf}
-use Rattle.receiver.specs.declared.unit.Settings.{Settings}
 use Rattle.receiver.specs.declared.assembly.Assembly.{Assembly}
 use Rattle.receiver.specs.declared.Receiver.{Receiver}
 use Rattle.receiver.specs.declared.Reply.{Reply}

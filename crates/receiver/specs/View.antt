@@ -7,8 +7,8 @@ use lib.ListN.{length}
 use Rattle.store.specs.Store.{storeOf}
 use Rattle.history.specs.Slots.{Heard}
 use Rattle.history.specs.Step.{Open, Near, State, Outcome, number, message-of, fields-of, assembling, near-after, telling, ends-here}
+use Rattle.reports.specs.declared.unit.Settings.{Settings}
 use Rattle.receiver.specs.Held.{noNearest, noAssembly}
-use Rattle.receiver.specs.declared.unit.Settings.{Settings}
 use Rattle.history.specs.declared.Place.{Place}
 use Rattle.receiver.specs.declared.nearest.Nearest.{Nearest}
 use Rattle.receiver.specs.declared.assembly.Assembly.{Assembly}

@@ -3,12 +3,11 @@ ghost use mathlib.Core.Path.{_≡_};
 ghost use Prim.Native.Nat.{_+_, _≤_, _<_};
 ghost use lib.ListN.{length};
 ghost use Rattle.bits.specs.Bits.{Inside};
-ghost use Rattle.history.specs.Slots.{no-fields};
 ghost use Rattle.receiver.specs.Held.{plainAnswer};
 ghost use Rattle.receiver.specs.Verdicts.{answerTo, toldOver, bitsFor};
-use crate::verdict::Verdict;
-use blocks::header::Address;
 use blocks::header::Fields;
+use reports::verdict::Verdict;
+use reports::verdict::no_fields;
 
 // The answer to a report: its outcome; 1 where an open assembly ended here without being handed over; the fault; the bits of the message that is
 // handed over, and its header's fields.
@@ -19,20 +18,6 @@ pub struct Answer {
     pub fault: u8,
     pub bits: usize,
     pub fields: Fields,
-}
-
-// No fields.
-pub(crate) fn no_fields() -> Fields
-    ensures { λ r. ⌜ r ≡ no-fields ⌝ }
-{
-    Fields {
-        destination: Address { kind: 0, ssi: 0 },
-        source: Address { kind: 0, ssi: 0 },
-        mni: 0,
-        message: 0,
-        width: 0,
-        elements: 0,
-    }
 }
 
 // An answer that hands nothing over.

@@ -5,11 +5,11 @@ ghost use lib.ListN.{length};
 ghost use Rattle.bits.specs.Bits.{Inside};
 ghost use Rattle.receiver.specs.Held.{noAssembly, agedAssembly, dueIn, droppedBy};
 ghost use Rattle.receiver.specs.Verdicts.{openIn, withStore, openedAs, keptAs, openAfter, storeAfter, bitsFor};
-use crate::answer::no_fields;
 use crate::nearest::repeats;
-use crate::place::wane;
-use crate::verdict::Verdict;
 use blocks::header::Fields;
+use reports::place::wane;
+use reports::verdict::Verdict;
+use reports::verdict::no_fields;
 
 // An open assembly, where `held` is 1: its header's fields, its SCH/H but for the countdown and one more than the countdown that a repeat has now; one less
 // than its slot count; its frame and countdown; the blocks kept; the bits joined, and the store that holds them.

@@ -2,16 +2,12 @@
 pub mod answer;
 pub mod assembly;
 pub mod nearest;
-pub mod place;
-pub mod report;
-pub mod unit;
-pub mod verdict;
 
 ghost use mathlib.Core.Path.{_≡_};
 ghost use mathlib.Core.Bool.{true};
 ghost use Prim.Native.Nat.{_+_, _≤_};
 ghost use lib.ListN.{length};
-ghost use Rattle.receiver.specs.Lent.{brought, lent};
+ghost use Rattle.reports.specs.Lent.{brought, lent};
 ghost use Rattle.receiver.specs.Reached.{Reached, Hears};
 ghost use Rattle.receiver.specs.Taken.{repliedBy, repliedOver};
 ghost use Rattle.receiver.specs.Verdicts.{headerFor, blockFor, judgedBy, facedBy, skippedFor};
@@ -21,18 +17,18 @@ use crate::answer::told;
 use crate::assembly::Assembly;
 use crate::assembly::change;
 use crate::nearest::Nearest;
-use crate::place::follows;
-use crate::report::report_rules;
-use crate::unit::Settings;
-use crate::unit::settings_fit;
-use crate::verdict::Verdict;
-use crate::verdict::on_end;
-use crate::verdict::on_frag;
-use crate::verdict::on_fragmented;
-use crate::verdict::on_nothing;
-use crate::verdict::on_unfragmented;
 use blocks::sizes::SchS;
 use history::Place;
+use reports::place::follows;
+use reports::report::report_rules;
+use reports::unit::Settings;
+use reports::unit::settings_fit;
+use reports::verdict::Verdict;
+use reports::verdict::on_end;
+use reports::verdict::on_frag;
+use reports::verdict::on_fragmented;
+use reports::verdict::on_nothing;
+use reports::verdict::on_unfragmented;
 
 // The receiver. What is not there is zero.
 #[repr(C)]

@@ -3,8 +3,8 @@ ghost use mathlib.Core.Path.{_≡_};
 ghost use Prim.Native.Nat.{_≤_};
 ghost use Rattle.receiver.specs.Held.{noNearest, agedNearest, repeatsHeld, nearestFrom, copiedBy};
 ghost use Rattle.receiver.specs.Verdicts.{nearestAfter};
-use crate::place::wane;
-use crate::verdict::Verdict;
+use reports::place::wane;
+use reports::verdict::Verdict;
 
 // The nearest earlier header for this unit with no break since, where `held` is 1: its SCH/H but for the countdown, and one more than the countdown that
 // a copy of it has now.

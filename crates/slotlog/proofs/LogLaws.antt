@@ -10,7 +10,7 @@ use lib.ListN.{length, drop, length-append, length-drop, List·getD-append}
 use lib.Seq.{take-append-le, drop-append-le}
 use borrow.Author.Tests.{leb-true, eqb-true, eqb-false, ltb-true, ltb-false, eq-eqb, ne-eqb, lt-ltb, le-ltb}
 use Rattle.records.specs.Numbers.{twoAt}
-use Rattle.receiver.specs.Lent.{Lent}
+use Rattle.reports.specs.Lent.{Lent}
 use Rattle.slotlog.specs.Log.{bodyOf, isReport, wholeOf, nextIn, reportIn, isFirst, Entry, report, other, cut, entry, entriesFor, entries}
 use Rattle.slotlog.specs.declared.log.Next.{Next}
 use Rattle.slotlog.specs.declared.log.Next.the-variants.{End, Part, Cut, Other, Report}

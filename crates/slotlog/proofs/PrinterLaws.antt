@@ -9,10 +9,11 @@ use lib.ListN.{length, take, drop, getD, length-append, drop-of-length-le, List�
 use lib.Seq.{drop-append-le}
 use borrow.Author.Tests.{le-leb, ne-eqb}
 use Rattle.history.specs.Line.{Line, start}
-use Rattle.receiver.specs.Lent.{Lent}
-use Rattle.receiver.specs.Held.{newReceiver, settingsFit}
+use Rattle.reports.specs.Lent.{Lent}
+use Rattle.reports.specs.Units.{settingsFit}
+use Rattle.reports.specs.declared.unit.Settings.{Settings}
+use Rattle.receiver.specs.Held.{newReceiver}
 use Rattle.receiver.specs.Reached.{Leads}
-use Rattle.receiver.specs.declared.unit.Settings.{Settings}
 use Rattle.receiver.specs.declared.Receiver.{Receiver}
 use Rattle.receiver.specs.declared.Fresh.{Fresh}
 use Rattle.receiver.proofs.HearLaws.{fresh-leads}

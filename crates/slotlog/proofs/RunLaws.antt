@@ -13,9 +13,9 @@ use Rattle.text.specs.Text.{Wrote, written}
 use Rattle.text.proofs.Writing.{wrote-none, wrote-both}
 use Rattle.records.specs.Numbers.{twoAt}
 use Rattle.history.specs.Line.{Line}
-use Rattle.receiver.specs.Lent.{Lent, lent}
+use Rattle.reports.specs.Lent.{Lent, lent}
+use Rattle.reports.specs.declared.unit.Settings.{Settings}
 use Rattle.receiver.specs.Reached.{refusedWith, Leads, Reached, Hears}
-use Rattle.receiver.specs.declared.unit.Settings.{Settings}
 use Rattle.receiver.specs.declared.Receiver.{Receiver}
 use Rattle.receiver.specs.declared.Reply.{Reply}
 use Rattle.receiver.proofs.AnswerLaws.{answer-is}

@@ -6,9 +6,10 @@ use Prim.Native.Nat.{ℕ, zero, suc, _+_, _-_}
 use lib.Dec.{eqb, leb, ltb}
 use lib.ListN.{length, take, drop, getD}
 use Rattle.records.specs.Numbers.{twoAt, fourAt}
-use Rattle.receiver.specs.Lent.{Lent}
-use Rattle.receiver.specs.Held.{newReceiver, settingsFit, freshOf}
-use Rattle.receiver.specs.declared.unit.Settings.{Settings}
+use Rattle.reports.specs.Lent.{Lent}
+use Rattle.reports.specs.Units.{settingsFit}
+use Rattle.reports.specs.declared.unit.Settings.{Settings}
+use Rattle.receiver.specs.Held.{newReceiver, freshOf}
 use Rattle.receiver.specs.declared.Fresh.{Fresh}
 use Rattle.slotlog.specs.declared.log.Next.{Next}
 use Rattle.slotlog.specs.declared.log.Next.the-variants.{End, Part, Cut, Other, Report}

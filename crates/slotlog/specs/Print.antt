@@ -7,11 +7,11 @@ use Rattle.text.specs.Text.{decimalOf, spaced}
 use Rattle.blocks.specs.Faults.{firstOf}
 use Rattle.history.specs.Line.{Line, start, _▸_}
 use Rattle.history.specs.Step.{outcome-at, dropped-at}
-use Rattle.receiver.specs.Lent.{Lent, reportRules, faultIn}
+use Rattle.reports.specs.Lent.{Lent, reportRules, faultIn}
+use Rattle.reports.specs.declared.unit.Settings.{Settings}
 use Rattle.receiver.specs.Held.{plainAnswer}
 use Rattle.receiver.specs.View.{answerOf}
 use Rattle.receiver.specs.Reached.{reportOf, reports}
-use Rattle.receiver.specs.declared.unit.Settings.{Settings}
 use Rattle.receiver.specs.declared.answer.Answer.{Answer}
 use Rattle.slotlog.specs.Log.{Entry, report, other, cut, settingsAt, isUnit, entries}
 

@@ -7,9 +7,9 @@ use lib.Dec.{eqb}
 use lib.ListN.{length, take, drop}
 use Rattle.text.specs.Text.{Wrote}
 use Rattle.history.specs.Line.{Line}
-use Rattle.receiver.specs.Lent.{Lent}
+use Rattle.reports.specs.Lent.{Lent}
+use Rattle.reports.specs.declared.unit.Settings.{Settings}
 use Rattle.receiver.specs.Reached.{Leads, Reached}
-use Rattle.receiver.specs.declared.unit.Settings.{Settings}
 use Rattle.receiver.specs.declared.Receiver.{Receiver}
 use Rattle.receiver.specs.declared.Reply.{Reply}
 use Rattle.slotlog.specs.Log.{entries}

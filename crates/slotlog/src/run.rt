@@ -2,7 +2,7 @@
 ghost use mathlib.Core.Path.{_≡_};
 ghost use Prim.Native.Nat.{_+_, _-_, _≤_};
 ghost use lib.ListN.{length, take, drop};
-ghost use Rattle.receiver.specs.Lent.{lent};
+ghost use Rattle.reports.specs.Lent.{lent};
 ghost use Rattle.receiver.specs.Reached.{Reached};
 ghost use Rattle.slotlog.specs.Log.{nextIn};
 ghost use Rattle.slotlog.specs.declared.log.Next.the-variants.{Report};

@@ -1,7 +1,7 @@
 use Prim.Native.Nat.{_-_, _≤_}
 use native.Mathlib.Omega.{arith}
 use lib.ListN.{length, take, drop, getD}
-use Rattle.receiver.specs.Lent.{lent}
+use Rattle.reports.specs.Lent.{lent}
 use Rattle.probe_reports.specs.Reports.{handedBy}
 use Rattle.probe_reports.proofs.Telling.{handed-inside, report-heard}
 use borrow.Author.Needs.{needs}

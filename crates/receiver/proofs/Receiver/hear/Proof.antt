@@ -1,5 +1,5 @@
 use mathlib.Core.Path.{sym, _∙_}
-use Rattle.receiver.specs.Lent.{lent}
+use Rattle.reports.specs.Lent.{lent}
 use Rattle.receiver.proofs.HearLaws.{roomy, passes, replied}
 use borrow.Author.Needs.{needs}
 use Rattle.receiver.proofs.Receiver.hear.Statement.{statement}

@@ -1,0 +1,18 @@
+use Rattle.bits.proofs.Tests.{tests}
+use Rattle.reports.proofs.unit.Settings.meant.Statement.{statement}
+use Rattle.reports.proofs.unit.Settings.meant.Tie as tie
+
+returns : tie.Need-returns
+returns c = search tests
+
+returns-2 : tie.Need-returns-2
+returns-2 c = search tests
+
+returns-3 : tie.Need-returns-3
+returns-3 c = search tests
+
+returns-4 : tie.Need-returns-4
+returns-4 c = search tests
+
+pub meant-spec : {M : Type 1} → statement M
+meant-spec = tie.close (tie.spec returns returns-2 returns-3 returns-4)
