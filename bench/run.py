@@ -92,7 +92,10 @@ HOW = {
         "Lines that are not empty, comments among them. `specs/` has the definitions that contracts speak of: these are to be read. `src/` has the code, and a contract at",
         "each function. `proofs/` shows that the code keeps the contracts: the prover reads it, and nobody else has to.",
     ],
-    "gate": ["Seconds that `rt ci` gives for the proof of each crate, and for its edits, which have to be refused, added up. Crates and edits run beside each other."],
+    "gate": [
+        "Seconds that `rt ci` gives for the proof of each crate, and those for its edits, which have to be refused, added up: of `rt ci` for the headline edits, each",
+        "the whole crate from nothing, and of `tests/edits` for all others, over what is proved. Crates and edits run beside each other.",
+    ],
 }
 
 
@@ -264,12 +267,12 @@ def line_lines():
 def gate_lines():
     path = os.path.join(tools.TOP, "target", "gate.txt")
     if not os.path.exists(path):
-        return ["`target/gate.txt` is not there: `.ci/run` leaves what `rt` says in it.", ""]
+        return ["`target/gate.txt` is not there: `.ci/run` leaves what `rt` and `tests/edits` say in it.", ""]
     proofs, edits, ends = {}, {}, []
     with open(path, encoding="utf-8", errors="replace") as text:
         for line in text:
             proof = re.match(r"rt: (\w+) proved \((\d+) s\)", line)
-            edit = re.match(r"rt: must-fail (\w+)/\S+ refused.*?(\d+) s\)", line)
+            edit = re.match(r"(?:rt: must-fail|edits: \d+ of \d+, [\w ]+:) (\w+)/\S+ refused.*?(\d+) s\)", line)
             if proof:
                 proofs[proof[1]] = int(proof[2])
             elif edit:
