@@ -93,8 +93,9 @@ HOW = {
         "each function. `proofs/` shows that the code keeps the contracts: the prover reads it, and nobody else has to.",
     ],
     "gate": [
-        "Seconds that `rt ci` gives for the proof of each crate, and those for its edits, which have to be refused, added up: of `rt ci` for the headline edits, each",
-        "the whole crate from nothing, and of `tests/edits` for all others, over what is proved. Crates and edits run beside each other.",
+        "Seconds that `rt ci` gives for the proof of each crate, and those for its edits, which have to be refused, added",
+        "up: of `rt ci` for the headline edits, each the whole crate from nothing, and of `tests/edits` for all others, over",
+        "what is proved. Crates and edits run beside each other.",
     ],
 }
 

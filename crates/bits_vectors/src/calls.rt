@@ -6,7 +6,8 @@ use crate::parts;
 use crate::parts::Size;
 use bits::Found;
 
-// What a call answers: a number; the bytes that it changed; `none`; that it does not take these numbers; or there is no such call.
+// What a call answers: a number; the bytes that it changed; `none`; that it does not take these numbers; or there is
+// no such call.
 pub enum Said {
     Number(u64),
     Bytes,
@@ -153,7 +154,8 @@ pub(crate) fn last_one(s: &[u8], from: usize, to: usize) -> Said {
     }
 }
 
-// A DMAC-END that carries `n` bits of `t` from bit `from` on: PDU type 01, subtype 1, fill indication 1, the bits, fill up to bit 268.
+// A DMAC-END that carries `n` bits of `t` from bit `from` on: PDU type 01, subtype 1, fill indication 1, the bits, fill
+// up to bit 268.
 pub(crate) fn end(block: &mut [u8], t: &[u8], from: usize, n: usize) -> Said
     requires { ⌜ (34 ≤ length (now block)) × (from ≤ 65535) ⌝ }
 {

@@ -1,6 +1,7 @@
 // Answers call records on `bits` from standard input, a line for each: what the stored vectors are run by.
 //
-// A record is two bytes length of what follows, two bytes kind, body; numbers have their low byte first. The kind is the call, 1 to 10, and the body:
+// A record is two bytes length of what follows, two bytes kind, body; numbers have their low byte first. The kind is the
+// call, 1 to 10, and the body has:
 //     0 2 4    three numbers of two bytes: x, y, z
 //     6        a value of eight bytes: v
 //     14       the length of the first of two runs of lent bytes, a byte

@@ -20,8 +20,8 @@ unfolding startOf
 wrote-start old word ns u v h = wrote-both old 0 word (spaced ns) u v h
 
 -- what was written at a buffer's start, and a line end after it
-pub ended : (old run : List ℕ) {new : List ℕ} {end : ℕ} → Wrote old 0 run new end → length new ≡ length old → end < length old
-    → Stands old (run ++ (10 ∷ [])) (set new end 10) (end + 1)
+pub ended : (old run : List ℕ) {new : List ℕ} {end : ℕ} → Wrote old 0 run new end → length new ≡ length old
+    → end < length old → Stands old (run ++ (10 ∷ [])) (set new end 10) (end + 1)
 ended old run w e h = record { wrote = wrote-more old 0 run 10 w h; fits = simp length-set (omega arith) }
 
 -- a line that was written fits its buffer

@@ -4,7 +4,8 @@ ghost use mathlib.Core.List.{[], _∷_, _++_};
 ghost use Prim.Native.Nat.{_+_, _*_, _≤_, _<_};
 ghost use lib.ListN.{length, drop};
 ghost use Rattle.text.specs.Text.{Wrote, decimalOf, hexOf};
-ghost use Rattle.lines.specs.Lines.{Stands, Says, lineOf, startOf, hexText, restOf, shownOf, lineWith, unknownLine};
+ghost use Rattle.lines.specs.Lines.{Stands, Says, startOf, lineOf, lineWith};
+ghost use Rattle.lines.specs.Lines.{hexText, restOf, shownOf, unknownLine};
 use libc::STDOUT_FILENO;
 
 // How many bytes of a buffer are a line; or there is none, since the record is too short for its kind.

@@ -13,7 +13,8 @@ use Rattle.blocks.specs.declared.continuation.Continuation.{Continuation}
 use Rattle.blocks.specs.declared.slots.Due.{Due}
 use Rattle.lines.specs.Lines.{unknownLine, Stands, Says}
 use Rattle.lines.specs.declared.line.Line.the-variants.{Bytes, Short}
-use Rattle.probe_blocks.specs.Calls.{headerText, blockText, frameText, buildLine, headerLine, blockLine, frameLine, recordLine}
+use Rattle.probe_blocks.specs.Calls.{headerText, blockText, frameText}
+use Rattle.probe_blocks.specs.Calls.{buildLine, headerLine, blockLine, frameLine, recordLine}
 
 pub block-said : (old body : List ℕ) {new : List ℕ} {b : Continuation} {n : ℕ} → b ≡ readContinuation body → Stands old (blockText b) new n → Says old (blockLine body) new (Bytes n)
 unfolding blockLine

@@ -1,4 +1,5 @@
-// The calls that leave a receiver alone, made as records name them: builds, reads and the layout, each with its answer's line.
+// The calls that leave a receiver alone, made as records name them: builds, reads and the layout, each with its
+// answer's line.
 mod body;
 mod calls;
 mod print;

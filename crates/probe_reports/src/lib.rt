@@ -1,10 +1,12 @@
-// The calls that give another receiver, made as records name them: settings and slot reports, each with its answer's line.
+// The calls that give another receiver, made as records name them: settings and slot reports, each with its answer's
+// line.
 ghost use mathlib.Core.Path.{_≡_};
 ghost use Prim.Native.Nat.{_≤_};
 ghost use lib.ListN.{length};
 ghost use Rattle.receiver.specs.Reached.{Reached};
 ghost use Rattle.lines.specs.Lines.{Stands};
-ghost use Rattle.probe_reports.specs.Reports.{handedBy, answerNumbers, reportText, unitText, Heard, UnitTells, ReportTells};
+ghost use Rattle.probe_reports.specs.Reports.{handedBy, answerNumbers, reportText, unitText};
+ghost use Rattle.probe_reports.specs.Reports.{Heard, UnitTells, ReportTells};
 use lines::line::BEFORE;
 use lines::line::Line;
 use lines::line::line_of;

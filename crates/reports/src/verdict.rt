@@ -1,7 +1,8 @@
 // What a report comes to, before anything is changed.
 ghost use mathlib.Core.Path.{_≡_};
 ghost use Rattle.history.specs.Slots.{no-fields};
-ghost use Rattle.reports.specs.Rules.{verdictOf, headerVerdict, nothingFor, fragFor, endFor, fragmentedFor, unfragmentedFor};
+ghost use Rattle.reports.specs.Rules.{verdictOf, headerVerdict, nothingFor};
+ghost use Rattle.reports.specs.Rules.{fragFor, endFor, fragmentedFor, unfragmentedFor};
 use blocks::header::Address;
 use blocks::header::Fields;
 use blocks::header::Header;

@@ -16,10 +16,14 @@ enum-known-kind : tie.Need-enum-known-kind
 enum-known-kind c = search needs
 
 array-share-prefix-body : tie.Need-array-share-prefix-body
-array-share-prefix-body c = body-held (c .before .before .before .before .take .last .0) (c .before .kind .given .1) (c .before .before .before .before .take .ensures) .0
+array-share-prefix-body c =
+    let t = c .before .before .before .before .take in
+    body-held (t .last .0) (c .before .kind .given .1) (t .ensures) .0
 
 slice-aggregate-answered : tie.Need-slice-aggregate-answered
-slice-aggregate-answered c = body-held (c .before .before .before .before .before .take .last .0) (c .before .before .kind .given .1) (c .before .before .before .before .before .take .ensures) .1
+slice-aggregate-answered c =
+    let t = c .before .before .before .before .before .take in
+    body-held (t .last .0) (c .before .before .kind .given .1) (t .ensures) .1
 
 slice-aggregate-answered-2 : tie.Need-slice-aggregate-answered-2
 slice-aggregate-answered-2 c = search needs

@@ -26,7 +26,11 @@ slice-aggregate-say : tie.Need-slice-aggregate-say
 slice-aggregate-say c = search needs
 
 say-requires : tie.Need-say-requires
-say-requires c κs = let a = c .before .before .before .before .before .before .before .before .before .args in told-fits (a .before) (a .kind) (a .body .now) (replicate 4096 0) _ (c .before .before .before .before .before .before .tell .result) (c .before .before .said .given .1) (c .before .before .before .before .before .before .tell .ensures .1)
+say-requires c κs =
+    let a = c .before .before .before .before .before .before .before .before .before .args in
+    let t = c .before .before .before .before .before .before .tell in
+    let e = c .before .before .said .given .1 in
+    told-fits (a .before) (a .kind) (a .body .now) (replicate 4096 0) _ (t .result) e (t .ensures .1)
 
 returns-2 : tie.Need-returns-2
 returns-2 c = search needs

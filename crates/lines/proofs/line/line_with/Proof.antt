@@ -29,8 +29,8 @@ returns c =
     let a = c .before .before .before .before .before .before .before .before .before .before .before .before .args in
     let s = c .before .before .before .before .before .before .start in
     let h = c .before .before .shown in
-    let e = h .kept .0 ∙ s .kept .0 in
-    ended (a .out .now) _ (wrote-both (a .out .now) 0 _ _ (s .ensures .0) (h .ensures .0) (omega (arith, s .ensures .1))) e (omega (arith, s .ensures .1, h .ensures .1))
+    let w = wrote-both (a .out .now) 0 _ _ (s .ensures .0) (h .ensures .0) (omega (arith, s .ensures .1)) in
+    ended (a .out .now) _ w (h .kept .0 ∙ s .kept .0) (omega (arith, s .ensures .1, h .ensures .1))
 
 pub line-with-spec : {M : Type 1} → statement M
 line-with-spec =

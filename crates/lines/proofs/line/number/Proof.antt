@@ -11,7 +11,8 @@ decimal-requires c κs = omega (arith, decimal-few 19 (c .before .before .args .
 slice-write-out : tie.Need-slice-write-out
 slice-write-out c =
     let d = c .before .before .decimal in
-    omega (arith, d .ensures .after, d .kept .0, decimal-few 19 (c .before .before .before .before .before .args .n) (omega arith))
+    let few = decimal-few 19 (c .before .before .before .before .before .args .n) (omega arith) in
+    omega (arith, d .ensures .after, d .kept .0, few)
 
 add-result : tie.Need-add-result
 add-result c = let h = slice-write-out c in search needs
