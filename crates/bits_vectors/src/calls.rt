@@ -27,7 +27,8 @@ fn reach(s: &[u8]) -> usize
     }
 }
 
-pub(crate) fn get(s: &[u8], at: usize, w: usize) -> Said
+// get (1), get8 (2) or get32 (3).
+pub(crate) fn get(call: u16, s: &[u8], at: usize, w: usize) -> Said
     requires { ⌜ at ≤ 65535 ⌝ }
 {
     if 56 < w {
@@ -36,31 +37,19 @@ pub(crate) fn get(s: &[u8], at: usize, w: usize) -> Said
     if reach(s) < at + w {
         return Said::Range;
     }
-    Said::Number(bits::get(s, at, w))
-}
-
-pub(crate) fn get8(s: &[u8], at: usize, w: usize) -> Said
-    requires { ⌜ at ≤ 65535 ⌝ }
-{
-    if 8 < w {
-        return Said::Range;
+    if call == 1 {
+        return Said::Number(bits::get(s, at, w));
     }
-    if reach(s) < at + w {
-        return Said::Range;
-    }
-    Said::Number(bits::get8(s, at, w) as u64)
-}
-
-pub(crate) fn get32(s: &[u8], at: usize, w: usize) -> Said
-    requires { ⌜ at ≤ 65535 ⌝ }
-{
     if 32 < w {
         return Said::Range;
     }
-    if reach(s) < at + w {
+    if call == 3 {
+        return Said::Number(bits::get32(s, at, w) as u64);
+    }
+    if 8 < w {
         return Said::Range;
     }
-    Said::Number(bits::get32(s, at, w) as u64)
+    Said::Number(bits::get8(s, at, w) as u64)
 }
 
 pub(crate) fn put(out: &mut [u8], at: usize, w: usize, v: u64) -> Said
@@ -119,34 +108,21 @@ pub(crate) fn copy(src: &[u8], from: usize, dst: &mut [u8], to: usize, n: usize)
     Said::Bytes
 }
 
-pub(crate) fn clear(out: &mut [u8], from: usize, to: usize) -> Said {
-    if to < from {
-        return Said::Range;
-    }
-    if reach(out) < to {
-        return Said::Range;
-    }
-    bits::clear(out, from, to);
-    Said::Bytes
-}
-
-pub(crate) fn fill(out: &mut [u8], from: usize, to: usize) -> Said {
-    if to < from {
-        return Said::Range;
-    }
-    if reach(out) < to {
-        return Said::Range;
-    }
-    bits::fill(out, from, to);
-    Said::Bytes
-}
-
-pub(crate) fn last_one(s: &[u8], from: usize, to: usize) -> Said {
+// clear (7), fill (8) or last_one (9), of the bits from `from` up to `to`.
+pub(crate) fn room(call: u16, s: &mut [u8], from: usize, to: usize) -> Said {
     if to < from {
         return Said::Range;
     }
     if reach(s) < to {
         return Said::Range;
+    }
+    if call == 7 {
+        bits::clear(s, from, to);
+        return Said::Bytes;
+    }
+    if call == 8 {
+        bits::fill(s, from, to);
+        return Said::Bytes;
     }
     match bits::last_one(s, from, to) {
         Found::At(i) => Said::Number(i as u64),

@@ -38,39 +38,40 @@ fn answer(call: u16, body: &[u8], s: &mut [u8], t: &[u8]) -> Said
     let x = number(body, 0);
     let y = number(body, 2);
     match call {
-        1 => calls::get(s, x, y),
-        2 => calls::get8(s, x, y),
-        3 => calls::get32(s, x, y),
+        1..=3 => calls::get(call, s, x, y),
         4 => calls::put(s, x, y, records::eight(body, 6)),
         5 => calls::put_all(s, x, t),
         6 => calls::copy(t, x, s, y, number(body, 4)),
-        7 => calls::clear(s, x, y),
-        8 => calls::fill(s, x, y),
-        9 => calls::last_one(s, x, y),
+        7..=9 => calls::room(call, s, x, y),
         _ => Said::Unknown,
     }
 }
 
-// The line of an answer, whose bytes are those of `s`.
-fn line_of(said: Said, s: &[u8], out: &mut [u8]) -> usize
-    requires { ⌜ (length (now s) ≤ 255) × (1024 ≤ length (now out)) ⌝ }
-    ensures { λ r. ⌜ r ≤ length (now (out .exit)) ⌝ }
-{
-    match said {
-        Said::Number(n) => line::number(out, n),
-        Said::Bytes => line::bytes(out, s),
-        Said::Nothing => text::copy(out, 0, b"none\n"),
-        Said::Range => text::copy(out, 0, b"range\n"),
-        Said::Unknown => text::copy(out, 0, b"call\n"),
-    }
+fn number_line(n: u64) -> bool {
+    let mut out = [0u8; 32];
+    let end = line::number(&mut out, n);
+    line::say(&out, end)
 }
 
+fn bytes_line(s: &[u8]) -> bool
+    requires { ⌜ length (now s) ≤ 255 ⌝ }
+{
+    let mut out = [0u8; 512];
+    let end = line::bytes(&mut out, s);
+    line::say(&out, end)
+}
+
+// Writes the line of an answer, whose bytes are those of `s`; false where nobody takes it.
 fn told(said: Said, s: &[u8]) -> bool
     requires { ⌜ length (now s) ≤ 255 ⌝ }
 {
-    let mut out = [0u8; 1024];
-    let n = line_of(said, s, &mut out);
-    line::say(&out, n)
+    match said {
+        Said::Number(n) => number_line(n),
+        Said::Bytes => bytes_line(s),
+        Said::Nothing => line::say(b"none\n", 5),
+        Said::Range => line::say(b"range\n", 6),
+        Said::Unknown => line::say(b"call\n", 5),
+    }
 }
 
 // A DMAC-END in a block of its own.
