@@ -1,5 +1,6 @@
 // Lines, put together in a buffer.
 ghost use mathlib.Core.Path.{_≡_};
+ghost use mathlib.Core.Bool.{false};
 ghost use mathlib.Core.List.{[], _∷_, _++_};
 ghost use Prim.Native.Nat.{_+_, _*_, _≤_, _<_};
 ghost use lib.ListN.{length, drop};
@@ -120,7 +121,9 @@ pub fn say(line: &[u8], n: usize) -> bool
 }
 
 // Says that a record is cut off. Nothing is read after it: false.
-pub fn cut() -> bool {
+pub fn cut() -> bool
+    ensures { λ r. ⌜ r ≡ false ⌝ }
+{
     io::write_all(STDOUT_FILENO, b"cut\n");
     false
 }
