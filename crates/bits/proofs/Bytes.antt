@@ -1,9 +1,11 @@
 -- The laws of bytes and their bits. Assumes nothing.
 use mathlib.Core.Path.{_≡_, refl, sym, ap, ap₂, _∙_}
-use mathlib.Core.Bool.{Bool}
+use mathlib.Core.Bool.{Bool, true, false}
 use mathlib.Core.List.{List, [], _∷_, _++_, append-assoc, append-nil}
 use Prim.Native.Nat.{ℕ, zero, suc, _+_, _-_, _*_, _/_, _%_, _^_, _≤_, _<_}
 use native.Mathlib.Omega.{arith}
+use lib.Dec.{eqb, leb}
+use borrow.Author.Tests.{le-leb, lt-leb, eqb-true, eqb-false}
 use lib.ListN.{length, take, drop, getD, length-append, length-take, length-drop, take-append-drop}
 use lib.Bits.{bitOr, or-shifted-r}
 use lib.Seq.{length-slice, take-nil, drop-nil, slice, slice-cons, slice-empty, drop-drop, take-append-add, drop-append-add, take-at, drop-at}
@@ -139,3 +141,12 @@ pub get-field : (s : List ℕ) (at w f t acc : ℕ) → 8 * f ≤ at → at + w 
 get-field s at w f t acc h k l o e =
     let n = length-bitsOf-slice f t s l in
     rw (e, num-field (bitsOf (slice f t s)) (at - 8 * f) w (8 * t - (at + w)) (omega arith), field-of s at w f t h k l) refl
+
+-- ---- the lent bits
+
+rest-when : (t : Bool) (n bytes : ℕ) → eqb (n % 8) 0 ≡ t → n / 8 ≡ bytes → t ≡ leb n (8 * bytes)
+rest-when true n bytes e h = let z = eqb-true (n % 8) 0 e in sym (le-leb n (8 * bytes) (omega arith))
+rest-when false n bytes e h = let z = eqb-false (n % 8) 0 e in sym (lt-leb n (8 * bytes) (omega arith))
+
+pub rest-lent : (n bytes : ℕ) → n / 8 ≡ bytes → eqb (n % 8) 0 ≡ leb n (8 * bytes)
+rest-lent n bytes h = rest-when (eqb (n % 8) 0) n bytes refl h

@@ -2,6 +2,7 @@
 ghost use mathlib.Core.Path.{_≡_};
 ghost use mathlib.Core.Bool.{false};
 ghost use Prim.Native.Nat.{_+_, _-_, _*_, _/_, _%_, _^_, _≤_, _<_, min};
+ghost use lib.Dec.{leb};
 ghost use lib.ListN.{length, take, drop, replicate};
 ghost use lib.Seq.{slice};
 ghost use Rattle.bits.specs.Bits.{num, bitsN, bitsOf, over, Inside, Got};
@@ -24,6 +25,20 @@ fn least(a: usize, b: usize) -> usize
     ensures { λ r. ⌜ r ≡ min a b ⌝ }
 {
     if a < b { a } else { b }
+}
+
+// Whether n bits are among those of so many bytes.
+pub fn bits_lent(n: usize, bytes: usize) -> bool
+    ensures { λ r. ⌜ r ≡ leb n (8 * bytes) ⌝ }
+{
+    let whole = n / 8;
+    if whole < bytes {
+        return true;
+    }
+    if bytes < whole {
+        return false;
+    }
+    n % 8 == 0
 }
 
 // The bytes from `first` up to `last`, eight at most, as one number, the first byte highest.

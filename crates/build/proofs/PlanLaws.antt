@@ -2,11 +2,11 @@
 use mathlib.Core.Path.{_≡_, refl, sym, ap, _∙_}
 use mathlib.Core.Bool.{Bool, true, false}
 use mathlib.Core.List.{List, [], _∷_, _++_}
-use Prim.Native.Nat.{ℕ, zero, suc, _+_, _-_, _*_, _/_, _%_, _≤_, _<_}
+use Prim.Native.Nat.{ℕ, zero, suc, _+_, _-_, _*_, _/_, _≤_, _<_}
 use native.Mathlib.Nat.{sub-self}
 use native.Mathlib.Omega.{arith}
-use lib.Dec.{eqb, leb}
-use borrow.Author.Tests.{le-leb, lt-leb, eqb-true, eqb-false, leb-true, leb-false}
+use lib.Dec.{leb}
+use borrow.Author.Tests.{le-leb, lt-leb, leb-true, leb-false}
 use Rattle.blocks.specs.Widths.{entryOf, runFits}
 use Rattle.build.specs.Plan.{numberRules, addressRules, cutRules, headerBits, buildFault, noPlan, planAs, planOf, plannedOf}
 use Rattle.blocks.specs.Faults.{unless, firstOf}
@@ -15,15 +15,6 @@ use Rattle.blocks.specs.declared.header.Fields.{Fields}
 use Rattle.blocks.proofs.FaultLaws.{chain-none, chain-given}
 use Rattle.blocks.specs.Slots.{fitsHeader}
 use Rattle.build.specs.declared.plan.Plan.{Plan}
-
--- ---- the lent bits
-
-rest-when : (t : Bool) (n bytes : ℕ) → eqb (n % 8) 0 ≡ t → n / 8 ≡ bytes → t ≡ leb n (8 * bytes)
-rest-when true n bytes e h = let z = eqb-true (n % 8) 0 e in sym (le-leb n (8 * bytes) (omega arith))
-rest-when false n bytes e h = let z = eqb-false (n % 8) 0 e in sym (lt-leb n (8 * bytes) (omega arith))
-
-pub rest-lent : (n bytes : ℕ) → n / 8 ≡ bytes → eqb (n % 8) 0 ≡ leb n (8 * bytes)
-rest-lent n bytes h = rest-when (eqb (n % 8) 0) n bytes refl h
 
 -- ---- what fits the header
 

@@ -1,11 +1,11 @@
 // What a build is refused for, and how its message is cut.
 ghost use mathlib.Core.Path.{_≡_};
-ghost use Prim.Native.Nat.{_*_, _^_};
-ghost use lib.Dec.{leb};
+ghost use Prim.Native.Nat.{_^_};
 ghost use Rattle.blocks.specs.Faults.{firstOf};
 ghost use Rattle.blocks.specs.Header.{addressWidth};
 ghost use Rattle.blocks.specs.Slots.{fitsHeader};
 ghost use Rattle.build.specs.Plan.{headerBitsOf, numberRules, addressRules, noPlan, planOf, plannedOf};
+use bits::bits_lent;
 use blocks::header::Fields;
 use blocks::header::address_width;
 use blocks::sync::Sync;
@@ -143,20 +143,6 @@ fn plan_of(to: u8, from: u8, entry: u8, h: usize, n: usize, lent: usize) -> Plan
         inside,
         blocks,
     }
-}
-
-// Whether n bits are among those of so many bytes.
-fn bits_lent(n: usize, bytes: usize) -> bool
-    ensures { λ r. ⌜ r ≡ leb n (8 * bytes) ⌝ }
-{
-    let whole = n / 8;
-    if whole < bytes {
-        return true;
-    }
-    if bytes < whole {
-        return false;
-    }
-    n % 8 == 0
 }
 
 // The header's bits without the slot count.

@@ -24,7 +24,7 @@ pub record Example : Type 0 where
   pub given : List ℕ
   pub told : List ℕ
 
-abbrev _gives_ : List ℕ → List ℕ → Example
+abbrev pub _gives_ : List ℕ → List ℕ → Example
 a gives b = record { given = a; told = b }
 
 infixl 5 _gives_

@@ -1,12 +1,12 @@
 -- The laws of a message's bytes, and of a lent buffer that they are handed over to. Assumes nothing.
 use mathlib.Core.Path.{_≡_, refl, sym, ap, _∙_}
 use mathlib.Core.Bool.{Bool, false}
-use mathlib.Core.List.{List, [], _∷_, _++_, append-nil}
+use mathlib.Core.List.{List, [], _∷_, _++_, append-assoc, append-nil}
 use Prim.Native.Nat.{ℕ, zero, suc, _+_, _-_, _*_, _/_, _≤_, _<_, min}
 use native.Mathlib.Nat.{zero-add}
 use native.Mathlib.Numerals.{add-one}
 use native.Mathlib.Omega.{arith}
-use lib.ListN.{length, take, drop, getD, set, replicate, length-replicate, getD-replicate, take-append-drop, drop-of-length-le}
+use lib.ListN.{length, take, drop, getD, set, replicate, length-append, length-drop, length-replicate, getD-replicate, take-append-drop, drop-of-length-le}
 use lib.Seq.{take-append-add, take-take, take-at, length-take-le, paste, paste-suc}
 use Rattle.bits.specs.Bits.{num, bitsOf, bytesN, over, AllBytes}
 use Rattle.bits.proofs.Numbers.{drop-of-take}
@@ -45,6 +45,31 @@ take-padded m t z h k =
     ap (λ (x : ℕ). take x (m ++ replicate z false)) (sym e)
     ∙ take-append-add m (replicate z false) (t - length m)
     ∙ rw (take-replicate (t - length m) z false, f) refl
+
+-- a message's bytes are those of its bits and of the 0s that fill the last one
+pub message-filled : (m : List Bool) → let q = (length m + 7) / 8 in messageBytes m ≡ bytesN q (m ++ replicate (8 * q - length m) false)
+unfolding messageBytes
+message-filled m =
+    let q = (length m + 7) / 8 in
+    sym (bytes-of-take q (m ++ replicate 7 false)) ∙ ap (bytesN q) (take-padded m (8 * q) 7 (omega arith) (omega arith))
+
+-- a buffer that a message was handed to is as long as it was, and begins with the message's bits
+pub length-handed : (m : List Bool) (old : List ℕ) → length m ≤ 8 * length old → length (handed m old) ≡ length old
+length-handed m old h =
+    length-append (messageBytes m) (drop (length (messageBytes m)) old)
+    ∙ omega (arith, length-message m, length-drop (length (messageBytes m)) old)
+
+pub handed-bits : (m : List Bool) (old : List ℕ) → take (length m) (bitsOf (handed m old)) ≡ m
+handed-bits m old =
+    let q = (length m + 7) / 8 in
+    let z = replicate (8 * q - length m) false in
+    let rest = bitsOf (drop (length (messageBytes m)) old) in
+    let whole : length (m ++ z) ≡ 8 * q = length-append m z ∙ omega (arith, length-replicate (8 * q - length m) false) in
+    ap (take (length m)) (bitsOf-append (messageBytes m) (drop (length (messageBytes m)) old)
+    ∙ ap (λ (x : List ℕ). bitsOf x ++ rest) (message-filled m)
+    ∙ ap (λ (x : List Bool). x ++ rest) (bitsOf-bytesN q (m ++ z) whole)
+    ∙ append-assoc m z rest)
+    ∙ take-at m (z ++ rest) (length m) refl
 
 -- a message's bytes are the first of the store that holds it
 pub message-in-store : (m : List Bool) → length m ≤ 4096 → messageBytes m ≡ take ((length m + 7) / 8) (storeOf m)

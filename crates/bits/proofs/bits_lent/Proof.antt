@@ -2,9 +2,9 @@ use native.Mathlib.Omega.{arith}
 use mathlib.Core.Path.{sym}
 use Prim.Native.Nat.{_*_}
 use borrow.Author.Tests.{lt-leb, le-leb}
-use Rattle.build.proofs.PlanLaws.{rest-lent}
-use Rattle.build.proofs.plan.bits_lent.Statement.{statement}
-use Rattle.build.proofs.plan.bits_lent.Tie as tie
+use Rattle.bits.proofs.Bytes.{rest-lent}
+use Rattle.bits.proofs.bits_lent.Statement.{statement}
+use Rattle.bits.proofs.bits_lent.Tie as tie
 
 returns : tie.Need-returns
 returns c = sym (le-leb (c .before .args .n) (8 * c .before .args .bytes) (omega arith))

@@ -1,0 +1,2 @@
+-- Request 04.
+pub mod Examples

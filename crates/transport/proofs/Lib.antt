@@ -1,0 +1,5 @@
+pub mod ElementLaws
+pub mod ReadLaws
+pub mod BuildLaws
+pub mod MessageLaws
+pub mod RoundTripLaws
