@@ -1,10 +1,11 @@
 #!/usr/bin/env python3
 """The proved program against the second one, on call records that nobody has seen: what they print has to be the same, byte for byte.
 
-against-second.py                  from fresh seeds, some 90,000 calls of every kind, and some 200,000 settings and reports, mutated runs of slots
-against-second.py --seeds A,B,..   the calls and the reports of these seeds again
+against-second.py                  from fresh seeds, some 90,000 calls of every kind, some 200,000 settings and reports, mutated runs of slots,
+                                   and some 60,000 transport messages, read, built and booked
+against-second.py --seeds A,B,..   the calls, the reports and the transport messages of these seeds again
 
-Where they differ it names the seed, the record's number in what `second make calls SEED` or `second make reports SEED` writes, and both lines.
+Where they differ it names the sort and the seed, the record's number in what `second make SORT SEED` writes, and both lines.
 """
 import itertools
 import os
@@ -13,11 +14,11 @@ import sys
 import second
 
 # What `second make` makes, and how many records of it are tried.
-MADE = {"calls": 90000, "reports": 200000}
+MADE = {"calls": 90000, "reports": 200000, "transport": 60000}
 # So many inputs the records of each sort are joined into. Each ends in a record that prints `cut`, if a seed had one, and one after it that is not read.
 INPUTS = 12
-# The receiver is what a program starts with: so a seed's answers do not hang on what stands before it.
-START = second.record(0, bytes(12))
+# The receiver and the bookings are what a program starts with: so a seed's answers do not hang on what stands before it.
+START = [second.record(0, bytes(12)), second.record(11, b"")]
 
 
 def fresh_seeds():
@@ -28,7 +29,7 @@ def fresh_seeds():
 def made(sort, seed):
     """The records of a seed, (sort, seed, number, record) each: those that can stand anywhere, and those from one that prints `cut` on."""
     calls = second.records(second.run("make", sort, str(seed)))
-    numbered = [(sort, seed, number, call) for number, call in enumerate([START] + calls)]
+    numbered = [(sort, seed, number, call) for number, call in enumerate(START + calls, 1 - len(START))]
     answers = second.lines(second.run("probe", given=joined(numbered)))
     whole = len(answers) - answers[-1:].count("cut")
     return numbered[:whole], numbered[whole:whole + 2]

@@ -5,8 +5,8 @@ probe_stored.py            write both files
 probe_stored.py --check    exit 1, and say what differs, where a stored file is not what this script makes
 
 The records are the second program's sheet of reads and layouts, all of it; of its sheet of builds those that show something which none
-before them showed; the histories of slot reports of histories.py, whose lines the second program has to agree with; and some that try
-the framing.
+before them showed; the histories of slot reports of histories.py, whose lines the second program has to agree with; its sheet of
+transport messages and bookings, all of it; and some that try the framing.
 """
 import itertools
 import os
@@ -67,9 +67,9 @@ def some_histories():
 def framing():
     """Unknown kinds, bytes beyond what a kind takes, the largest body, outputs that are too long; then a record that is cut, and one more."""
     fields = dict(system=12, usage=1, slot=0, frame=7, countdown=2, to_type=0, to=1, from_type=0, source=2, mni=3, message=11, width=0, elements=0)
-    for kind in (0x0100, 0x0104, 0x0105, 0x0400, 0x0800, 0xFFFF, 1, 2, 3, 9):
+    for kind in (0x0100, 0x0104, 0x0105, 0x0109, 0x010B, 0x0400, 0x0800, 0x0B00, 0xFFFF, 1, 2, 3, 13):
         yield second.record(kind, [17, 0, 0])
-    yield second.record(9, b"")
+    yield second.record(13, b"")
     yield second.record(8, [17, 0, 0, 255])
     yield second.record(6, [0, 0, 255])
     yield second.record(7, b"")
@@ -85,7 +85,8 @@ def framing():
 
 
 def made():
-    given = second.run("blocks") + b"".join(itertools.chain(some_builds(), some_histories(), framing()))
+    sheets = [second.run("blocks")], some_builds(), some_histories(), [second.run("transports")], framing()
+    given = b"".join(itertools.chain(*sheets))
     return given, second.run("probe", given=given)
 
 

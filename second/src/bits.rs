@@ -58,6 +58,11 @@ impl<'a> Taker<'a> {
         value(self.run(width))
     }
 
+    /// The next run of bits, as a number, if it is all there.
+    pub fn next(&mut self, width: usize) -> Option<u64> {
+        (width <= self.rest().len()).then(|| self.number(width))
+    }
+
     /// All that comes after what was taken.
     pub fn rest(&self) -> &'a [bool] {
         &self.bits[self.at..]

@@ -1,9 +1,12 @@
 //! probe: every call, tried from a file of call records.
 
+use crate::bits::pack;
 use crate::blocks::{build, read_continuation, read_header, Fields, HEADER_BYTES, SCH_F_BYTES};
+use crate::bookings::Bookings;
 use crate::layout::due_frame;
 use crate::log::{little, settings, Record, Records, SETTINGS_BYTES};
 use crate::receiver::{Receiver, Report};
+use crate::transport::{Lent, Message, Name, Wanted, NAMES};
 
 /// The largest body, and the largest lent buffer.
 const LARGEST_BODY: usize = 4_096;
@@ -11,13 +14,20 @@ const LARGEST_BUFFER: usize = 1_024;
 /// What every lent output buffer is filled with.
 const BEFORE: u8 = 0x5A;
 
+/// What one call leaves to the next.
+#[derive(Default)]
+struct Kept {
+    receiver: Receiver,
+    bookings: Bookings,
+}
+
 /// Makes the calls and prints their answers.
 pub fn probe(input: &[u8]) -> String {
-    let mut receiver = Receiver::default();
+    let mut kept = Kept::default();
     let mut lines = String::new();
     for record in Records::new(input) {
         let line = match record {
-            Record::Whole(kind, body) => call(&mut receiver, kind, body),
+            Record::Whole(kind, body) => call(&mut kept, kind, body),
             Record::Cut => None,
         };
         lines += line.as_deref().unwrap_or("cut");
@@ -30,18 +40,22 @@ pub fn probe(input: &[u8]) -> String {
 }
 
 /// One call's line; `None` for a record that counts as cut.
-fn call(receiver: &mut Receiver, kind: u16, body: &[u8]) -> Option<String> {
+fn call(kept: &mut Kept, kind: u16, body: &[u8]) -> Option<String> {
     if body.len() > LARGEST_BODY {
         return None;
     }
     let mut body = Body { rest: body };
     match kind {
-        0 => set(receiver, body.take(SETTINGS_BYTES)?),
-        4 => report(receiver, &mut body),
+        0 => set(&mut kept.receiver, body.take(SETTINGS_BYTES)?),
+        4 => report(&mut kept.receiver, &mut body),
         5 => build_call(&mut body),
         6 => header(&mut body),
         7 => Some(block(body.rest)),
         8 => frame(&mut body),
+        9 => transport(&mut body),
+        10 => sdu(&mut body),
+        11 => Some(fresh_bookings(&mut kept.bookings)),
+        12 => book(&mut kept.bookings, &mut body),
         _ => Some("kind".to_string()),
     }
 }
@@ -174,6 +188,87 @@ fn frame(body: &mut Body) -> Option<String> {
     })
 }
 
+/// Message type, elements and n, then the message. Of the elements only the last bit counts.
+fn take_lent<'a>(body: &mut Body<'a>) -> Option<Lent<'a>> {
+    Some(Lent {
+        carrier: body.number(1)?,
+        fcs: body.number(8)? & 1 == 1,
+        n: body.number(4)?,
+        bytes: body.rest,
+    })
+}
+
+fn transport(body: &mut Body) -> Option<String> {
+    let numbers = match take_lent(body)?.read() {
+        Ok(read) => {
+            let message = &read.message;
+            let start = [0, message.kind, message.addressed, message.mni, message.ssi];
+            let end = [read.first as u64, read.bits as u64];
+            [&start[..], &message.elements, &end].concat()
+        }
+        Err(fault) => refusal(fault, 17),
+    };
+    Some(format!("transport {}", decimals(&numbers)))
+}
+
+fn sdu(body: &mut Body) -> Option<String> {
+    let (carrier, fcs) = (body.number(1)?, body.number(1)?);
+    let message = take_message(body)?;
+    let (n, length) = (body.number(4)?, body.number(2)? as usize);
+    if length > LARGEST_BUFFER {
+        return Some("kind".to_string());
+    }
+    let mut output = vec![BEFORE; length];
+    let wanted = Wanted {
+        carrier,
+        fcs,
+        message,
+        n,
+        bytes: body.rest,
+    };
+    Some(match wanted.build(length) {
+        Ok(bits) => {
+            let bytes = pack(&bits);
+            output[..bytes.len()].copy_from_slice(&bytes);
+            let written = written(&output, bits.len().div_ceil(8));
+            format!("sdu 0 {} {written}", bits.len())
+        }
+        Err(fault) => format!("sdu {fault} 0 {}", written(&output, 0)),
+    })
+}
+
+fn take_message(body: &mut Body) -> Option<Message> {
+    let mut message = Message {
+        addressed: body.number(1)?,
+        mni: body.number(4)?,
+        ssi: body.number(4)?,
+        kind: body.number(1)?,
+        ..Message::default()
+    };
+    for (name, length) in NAMES.into_iter().zip([1, 1, 1, 1, 1, 1, 1, 1, 1, 8]) {
+        message.set(name, body.number(length)?);
+    }
+    Some(message)
+}
+
+/// What a body has is left alone.
+fn fresh_bookings(bookings: &mut Bookings) -> String {
+    *bookings = Bookings::default();
+    "bookings".to_string()
+}
+
+fn book(bookings: &mut Bookings, body: &mut Body) -> Option<String> {
+    let source = body.number(4)?;
+    let numbers = match bookings.book(source, &take_lent(body)?) {
+        Ok((mark, message)) => {
+            let reference = message.get(Name::Reference);
+            vec![0, mark.into(), message.kind, reference]
+        }
+        Err(fault) => refusal(fault, 4),
+    };
+    Some(format!("book {}", decimals(&numbers)))
+}
+
 /// Addresses and their types, MNI, message type, width and elements.
 fn message_fields(fields: &Fields) -> [u64; 8] {
     [
@@ -296,11 +391,84 @@ mod tests {
         );
     }
 
+    /// A message in a DM-SDS DATA, its elements all ones but for the FCS flag, n bits of it.
+    fn lent(n: u32, message: &[u8]) -> Vec<u8> {
+        let elements = [0xFE, 0xFF, 0xFF, 0xFF, 0xFF, 0xFF, 0xFF, 0xFF];
+        [&[23], &elements[..], &n.to_le_bytes(), message].concat()
+    }
+
+    /// 0, 0011, L 34; 10000011, 0000, 10, 1, 1, 11000000; 00011, 111; 10, and six bits more.
+    const TRANSFER: [u8; 7] = [0x18, 0x22, 0x83, 0x0B, 0xC0, 0x1F, 0xBF];
+
+    #[test]
+    fn transports() {
+        let reads = |n| probed(&[record(9, &lent(n, &TRANSFER))]);
+        let line = "transport 0 1 0 0 0 131 2 1 0 1 0 192 3 7 0 48 2\n";
+        assert_eq!(reads(50), line);
+        assert_eq!(reads(56), line);
+        for (n, fault) in [(57, 13), (27, 21), (28, 22), (49, 22)] {
+            assert_eq!(reads(n), format!("transport {fault}{}\n", " 0".repeat(16)));
+        }
+        let mut with_fcs = lent(50, &TRANSFER);
+        with_fcs[1] = 1;
+        let refused = format!("transport 22{}\n", " 0".repeat(16));
+        assert_eq!(probed(&[record(9, &with_fcs)]), refused);
+    }
+
+    /// A build of that transfer: n bits of user data 10111111 01000000.
+    fn sdu_record(n: u8, output: u16) -> Vec<u8> {
+        let mut body = vec![23, 0, 0, 0, 0, 0, 0, 0, 0, 0, 0, 1];
+        body.extend([131, 2, 1, 0, 1, 0, 192, 3, 7]);
+        body.extend([0; 8]);
+        body.extend([n, 0, 0, 0]);
+        body.extend(output.to_le_bytes());
+        body.extend([0xBF, 0x40]);
+        record(10, &body)
+    }
+
+    #[test]
+    fn sdus() {
+        assert_eq!(probed(&[sdu_record(2, 7)]), "sdu 0 50 1822830bc01f80 1\n");
+        assert_eq!(
+            probed(&[sdu_record(16, 1_024)]),
+            "sdu 0 64 1830830bc01fbf40 1\n"
+        );
+        assert_eq!(probed(&[sdu_record(2, 6)]), "sdu 1 0 - 1\n");
+        assert_eq!(probed(&[sdu_record(17, 0)]), "sdu 13 0 - 1\n");
+        assert_eq!(probed(&[sdu_record(2, 1_025)]), "kind\n");
+        let mut other = sdu_record(2, 7);
+        other[4] = 25;
+        assert_eq!(probed(&[other]), "sdu 21 0 - 1\n");
+    }
+
+    #[test]
+    fn books() {
+        let book = |source: u32, n| {
+            let source = source.to_le_bytes();
+            record(12, &[&source[..], &lent(n, &TRANSFER)].concat())
+        };
+        let given = [
+            book(7, 50),
+            book(7, 50),
+            book(8, 50),
+            book(7, 49),
+            book(1 << 24, 0),
+            record(0, &[0; 12]),
+            book(7, 50),
+            record(11, &[1, 2, 3]),
+            book(7, 50),
+        ];
+        let lines =
+            "book 0 1 1 192\nbook 0 2 1 192\nbook 0 1 1 192\nbook 22 0 0 0\nbook 13 0 0 0\n\
+                     unit 0\nbook 0 2 1 192\nbookings\nbook 0 1 1 192\n";
+        assert_eq!(probed(&given), lines);
+    }
+
     #[test]
     fn words() {
         let frame = record(8, &[17, 0, 0]);
         let with = |record: Vec<u8>| probed(&[record, frame.clone()]);
-        assert_eq!(with(record(9, &[])), "kind\nframe 0 1\n");
+        assert_eq!(with(record(13, &[])), "kind\nframe 0 1\n");
         assert_eq!(with(record(1, &[5, 1])), "kind\nframe 0 1\n");
         assert_eq!(with(record(4, &[1, 1, 1, 1, 4])), "kind\nframe 0 1\n");
         assert_eq!(with(record(7, &[0; 4_096])), "block 1 0 0 0\nframe 0 1\n");
@@ -310,6 +478,14 @@ mod tests {
         assert_eq!(with(record(5, &[0; 34])), "cut\n");
         assert_eq!(with(record(4, &[1, 1, 1, 0])), "cut\n");
         assert_eq!(with(record(0, &[0; 11])), "cut\n");
+        assert_eq!(with(record(9, &[0; 12])), "cut\n");
+        assert_eq!(with(record(9, &[0; 4_097])), "cut\n");
+        assert_eq!(with(record(10, &[0; 34])), "cut\n");
+        assert_eq!(with(record(11, &[])), "bookings\nframe 0 1\n");
+        assert_eq!(with(record(11, &[0; 4_096])), "bookings\nframe 0 1\n");
+        assert_eq!(with(record(11, &[0; 4_097])), "cut\n");
+        assert_eq!(with(record(12, &[0; 16])), "cut\n");
+        assert_eq!(with(record(12, &[0; 17])), "book 21 0 0 0\nframe 0 1\n");
         assert_eq!(with(vec![1, 0, 0]), "cut\n");
     }
 }

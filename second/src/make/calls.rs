@@ -4,6 +4,7 @@ use super::logs::{episodes, Slot};
 use super::parts::{damage_continuation, draw_continuation, draw_fields, lengths, record};
 use super::parts::{set_types, Message, Raw, Unit, HEADER_FAULTS, UNLISTED};
 use super::rng::Rng;
+use super::transports::any_call;
 use crate::blocks::{build, header_bits, Fields, HEADER_BYTES, SCH_F_BYTES, SCH_S_BYTES};
 
 /// A build call as its record has it.
@@ -65,6 +66,10 @@ pub fn calls(seed: u64) -> Vec<u8> {
     }
     while records.len() < target {
         some_calls(&mut rng, &mut unit, &mut records);
+    }
+    for _ in 0..rng.index(40) {
+        let at = rng.index(records.len() + 1);
+        records.insert(at, any_call(&mut rng));
     }
     if rng.chance(20) {
         let at = records.len() - rng.index(records.len() / 10 + 1);
@@ -289,7 +294,7 @@ fn odd_record(rng: &mut Rng) -> Vec<u8> {
             call.record()
         }
         _ => {
-            let (kind, length) = (rng.pick(&[1, 2, 3, 9, 256, 65_535]), rng.index(40));
+            let (kind, length) = (rng.pick(&[1, 2, 3, 13, 256, 65_535]), rng.index(40));
             record(kind, &rng.bytes(length))
         }
     }
@@ -300,7 +305,7 @@ fn cut_record(rng: &mut Rng) -> Vec<u8> {
     match rng.below(5) {
         0 => vec![rng.below(2) as u8, 0],
         1 => vec![0xFF, 0xFF, 8, 0, 1, 1, 1],
-        2 => record(rng.pick(&[7, 9]), &[0x60; 4_097]),
+        2 => record(rng.pick(&[7, 13]), &[0x60; 4_097]),
         3 => record(6, &[8]),
         _ => {
             let (kind, length) = rng.pick(&[(0, 12), (4, 5), (5, 35), (6, 2), (8, 3)]);

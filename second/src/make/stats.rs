@@ -1,6 +1,6 @@
 //! How often each answer comes in the made inputs of a range of seeds.
 
-use super::{calls, log, reports};
+use super::{calls, log, reports, transport};
 use crate::{log::print, probe::probe};
 use std::collections::BTreeMap;
 use std::fmt::Write;
@@ -8,16 +8,27 @@ use std::fmt::Write;
 /// Counts by what is counted, for the logs and for each sort of call.
 type Counts = BTreeMap<String, [u64; COLUMNS.len()]>;
 
-const COLUMNS: [&str; 7] = ["log", "report", "build", "header", "block", "frame", "unit"];
+const COLUMNS: [&str; 10] = [
+    "log",
+    "report",
+    "build",
+    "header",
+    "block",
+    "frame",
+    "unit",
+    "transport",
+    "sdu",
+    "book",
+];
 
-/// Makes and runs the logs, the call files and the reports of these seeds.
+/// Makes and runs the logs, the call files, the reports and the transport calls of these seeds.
 pub fn stats(from: u64, to: u64) -> String {
     let mut counts = rows();
     for seed in from..=to {
         for line in print(&log(seed)).lines() {
             count_log_line(&mut counts, line);
         }
-        for given in [calls(seed), reports(seed)] {
+        for given in [calls(seed), reports(seed), transport(seed)] {
             for line in probe(&given).lines() {
                 count_call_line(&mut counts, line);
             }
@@ -29,9 +40,14 @@ pub fn stats(from: u64, to: u64) -> String {
 /// Every row, so that one that never comes is seen.
 fn rows() -> Counts {
     let outcomes = (0..=5).map(|outcome| outcome_row(&outcome.to_string()));
-    let faults = (0..=18).map(|fault| fault_row(&fault.to_string()));
-    let others = ["dropped 1", "word unit", "word kind", "word cut", "line"].map(String::from);
-    let names = outcomes.chain(faults).chain(others);
+    let faults = (0..=18).chain([21, 22]);
+    let faults = faults.map(|fault| fault_row(&fault.to_string()));
+    let kinds = (0..=4).map(|kind| kind_row(&kind.to_string()));
+    let marks = (0..=2).map(|mark| mark_row(&mark.to_string()));
+    let others = ["dropped 1", "line"].into_iter().map(String::from);
+    let words = ["unit", "kind", "cut", "bookings"].map(|word| format!("word {word}"));
+    let names = outcomes.chain(faults).chain(kinds).chain(marks);
+    let names = names.chain(others).chain(words);
     names.map(|name| (name, [0; COLUMNS.len()])).collect()
 }
 
@@ -41,6 +57,16 @@ fn outcome_row(outcome: &str) -> String {
 
 fn fault_row(fault: &str) -> String {
     format!("fault {fault:>2}")
+}
+
+/// Which of the four messages was read, 0 for none.
+fn kind_row(kind: &str) -> String {
+    format!("message {kind}")
+}
+
+/// What a booking was marked with.
+fn mark_row(mark: &str) -> String {
+    format!("mark {mark}")
 }
 
 fn add(counts: &mut Counts, name: String, column: usize) {
@@ -69,25 +95,34 @@ fn count_call_line(counts: &mut Counts, line: &str) {
         ["report", outcome, dropped, fault, ..] => {
             count_report(counts, 1, [outcome, dropped, fault]);
         }
-        [call, fault, ..] => {
+        [call, fault, ref rest @ ..] => {
             let column = COLUMNS.iter().position(|&name| name == call).unwrap_or(0);
             add(counts, "line".to_string(), column);
             add(counts, fault_row(fault), column);
+            match (call, rest) {
+                ("transport", [kind, ..]) => add(counts, kind_row(kind), column),
+                ("book", [mark, kind, ..]) => {
+                    add(counts, mark_row(mark), column);
+                    add(counts, kind_row(kind), column);
+                }
+                _ => (),
+            }
         }
+        ["bookings"] => add(counts, format!("word {line}"), COLUMNS.len() - 1),
         _ => add(counts, format!("word {line}"), 1),
     }
 }
 
 fn table(counts: &Counts) -> String {
-    let mut table = format!("{:12}", "");
+    let mut table = format!("{:14}", "");
     for column in COLUMNS {
-        let _ = write!(table, "{column:>9}");
+        let _ = write!(table, "{column:>10}");
     }
     table.push('\n');
     for (name, columns) in counts {
-        let _ = write!(table, "{name:12}");
+        let _ = write!(table, "{name:14}");
         for count in columns {
-            let _ = write!(table, "{count:>9}");
+            let _ = write!(table, "{count:>10}");
         }
         table.push('\n');
     }
@@ -101,19 +136,47 @@ mod tests {
     #[test]
     fn every_answer_comes() {
         for row in stats(1, 60).lines().skip(1) {
-            let counts = row[12..].split_whitespace();
+            let counts = row[14..].split_whitespace();
             let total: u64 = counts.map(|count| count.parse::<u64>().unwrap()).sum();
             assert!(total > 0, "{row}");
         }
     }
 
+    /// The transport calls alone: every answer of theirs, and most reads are taken or nearly.
+    #[test]
+    fn every_transport_answer_comes() {
+        let mut counts = Counts::new();
+        for seed in 1..=20 {
+            for line in probe(&transport(seed)).lines() {
+                count_call_line(&mut counts, line);
+            }
+        }
+        let column = |name| COLUMNS.iter().position(|&other| other == name).unwrap();
+        let count = |name: String, call| counts.get(&name).map_or(0, |row| row[column(call)]);
+        let fault = |number: u8, call| count(fault_row(&number.to_string()), call);
+        for (call, faults) in [
+            ("transport", &[0, 13, 21, 22][..]),
+            ("sdu", &[0, 1, 13, 21]),
+            ("book", &[0, 13, 21, 22]),
+        ] {
+            assert!(faults.iter().all(|&number| fault(number, call) > 20));
+            let all = count("line".to_string(), call);
+            assert!(2 * fault(0, call) > all, "{call}: {counts:?}");
+        }
+        for kind in 1..=4 {
+            let kind = kind_row(&kind.to_string());
+            assert!(count(kind.clone(), "transport") > 20 && count(kind, "book") > 20);
+        }
+        for mark in 0..=2 {
+            assert!(count(mark_row(&mark.to_string()), "book") > 100);
+        }
+    }
+
     #[test]
     fn the_same_seed_gives_the_same_input() {
-        assert_eq!(log(7), log(7));
-        assert_eq!(calls(7), calls(7));
-        assert_eq!(reports(7), reports(7));
-        assert_ne!(log(7), log(8));
-        assert_ne!(calls(7), calls(8));
-        assert_ne!(reports(7), reports(8));
+        for made in [log, calls, reports, transport] {
+            assert_eq!(made(7), made(7));
+            assert_ne!(made(7), made(8));
+        }
     }
 }
