@@ -4,3 +4,4 @@ pub mod Layouts
 pub mod Elements
 pub mod Reading
 pub mod Building
+pub mod Well
