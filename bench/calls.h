@@ -30,11 +30,20 @@ typedef struct pierstrand_built Built;
 typedef struct pierstrand_header Header;
 typedef struct pierstrand_continuation Block;
 typedef struct pierstrand_due Due;
+typedef struct pierstrand_message Message;
+typedef struct pierstrand_transport Transport;
+typedef struct pierstrand_sdu Sdu;
+typedef struct pierstrand_bookings Bookings;
+typedef struct pierstrand_booked Booked;
 
 #define DESTINATION destination
 #define ADDRESS_TYPE kind
 #define HEADER_OF(header) (header)
 #define BLOCK_OF(block) (block)
+#define TRANSPORT_OF(transport) (transport)
+#define MARK_OF(booked) ((booked).mark)
+#define FAULT_OF(booked) ((booked).transport.fault)
+#define BOOKED_OF(booked) ((booked).transport)
 
 #define FRESH(unit, individual, group, mni) ((unit) = pierstrand_fresh(individual, group, mni))
 #define HEAR(answer, unit, report, message, room)                                               \
@@ -48,6 +57,13 @@ typedef struct pierstrand_due Due;
 #define READ_BLOCK(block, sch_f, length) ((block) = pierstrand_read_continuation(sch_f, length))
 #define DUE(due, frame, countdown, block)                                                       \
 	((due) = pierstrand_due_frame(frame, countdown, block))
+#define READ_TRANSPORT(transport, fields, n, sdu, length)                                       \
+	((transport) = pierstrand_read_transport(*(fields), n, sdu, length))
+#define BUILD_TRANSPORT(sdu, carrier, fcs, message, n, user, length, out, room)                 \
+	((sdu) = pierstrand_build_transport(carrier, fcs, *(message), n, user, length, out, room))
+#define FRESH_BOOKINGS(bookings) ((bookings) = pierstrand_fresh_bookings())
+#define BOOK(booked, bookings, fields, n, sdu, length)                                          \
+	((booked) = pierstrand_book(&(bookings), *(fields), n, sdu, length))
 
 #else
 
@@ -57,6 +73,8 @@ typedef struct dm_report Report;
 typedef struct dm_sync Sync;
 typedef struct dm_fields Fields;
 typedef struct dm_answer Answer;
+typedef struct dm_message Message;
+typedef struct dm_bookings Bookings;
 
 typedef struct {
 	uint8_t fault;
@@ -83,10 +101,29 @@ typedef struct {
 	uint8_t frame;
 } Due;
 
+typedef struct {
+	uint8_t fault;
+	struct dm_transport transport;
+} Transport;
+
+typedef struct {
+	uint8_t fault;
+	uint16_t bits;
+} Sdu;
+
+typedef struct {
+	uint8_t fault;
+	struct dm_booked booked;
+} Booked;
+
 #define DESTINATION dest
 #define ADDRESS_TYPE type
 #define HEADER_OF(found) ((found).header)
 #define BLOCK_OF(found) ((found).block)
+#define TRANSPORT_OF(found) ((found).transport)
+#define MARK_OF(found) ((found).booked.mark)
+#define FAULT_OF(found) ((found).fault)
+#define BOOKED_OF(found) ((found).booked.transport)
 
 #define FRESH(unit, individual, group, mni)                                                     \
 	((unit).fault = dm_fresh(&(unit).receiver, individual, group, mni))
@@ -100,6 +137,14 @@ typedef struct {
 #define READ_BLOCK(found, sch_f, length)                                                        \
 	((found).fault = dm_read_continuation(sch_f, length, &(found).block))
 #define DUE(due, x, countdown, i) ((due).fault = dm_layout(x, countdown, i, &(due).frame))
+#define READ_TRANSPORT(found, fields, n, sdu, length)                                           \
+	((found).fault = dm_read_transport(fields, n, sdu, length, &(found).transport))
+#define BUILD_TRANSPORT(sdu, carrier, fcs, message, n, user, length, out, room)                 \
+	((sdu).fault = dm_build_transport(carrier, fcs, message, n, user, length, out, room,    \
+					  &(sdu).bits))
+#define FRESH_BOOKINGS(bookings) dm_fresh_bookings(&(bookings))
+#define BOOK(found, bookings, fields, n, sdu, length)                                           \
+	((found).fault = dm_book(&(bookings), fields, n, sdu, length, &(found).booked))
 
 #endif
 

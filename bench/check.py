@@ -12,9 +12,9 @@ import subprocess
 import sys
 
 HERE = os.path.dirname(os.path.abspath(__file__))
-KINDS = [("log", "print"), ("calls", "probe"), ("reports", "probe")]
+KINDS = [("log", "print"), ("calls", "probe"), ("reports", "probe"), ("transport", "probe")]
 PEERS = ["peer-library", "peer-plain", "peer-osmo", "peer-plain-Os", "peer-osmo-Os"]
-SHEETS = [("slots", "print"), ("blocks", "probe"), ("builds", "probe")]
+SHEETS = [("slots", "print"), ("blocks", "probe"), ("builds", "probe"), ("transports", "probe")]
 
 
 def run(words, given=b""):

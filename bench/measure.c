@@ -17,9 +17,13 @@
 #include <string.h>
 
 #define BLOCKS (SCH_S + SCH_H + 15 * SCH_F)
+#define LONGEST_SDU 269
+#define PAIRS 32
 
 enum { SILENCE = 1, HEADER, BLOCK };
 enum { NOTHING, UNFRAGMENTED, JOINED, OPENED, KEPT, COPY };
+enum { TRANSFER = 1, DELIVERY_REPORT, DELIVERY_ACK, SHORT_REPORT };
+enum { NOT_BOOKED, BOOKED, AGAIN };
 
 #define FRAMES 18
 #define SLOTS (2 * FRAMES)
@@ -71,6 +75,24 @@ static struct {
 	uint8_t fault;
 	unsigned bits;
 } lent;
+
+/* What a read of a DM-SDU takes, and what it is to find; what it was built of. */
+static struct {
+	Fields fields;
+	uint8_t fcs;
+	Message message;
+	unsigned user; /* bits of user data */
+	uint8_t bytes[ROOM]; /* as in a receiver's message buffer */
+	size_t length;
+	unsigned n;
+	uint8_t fault;
+} sdu;
+
+/* What a booking takes, and the mark that it is to give. */
+static struct {
+	Bookings bookings;
+	uint8_t mark;
+} index_;
 
 static uint8_t messages[8][ROOM]; /* the last is all 0 */
 static uint64_t sum;
@@ -401,6 +423,145 @@ static void make_block_fill(void)
 	make_part(INSIDE + 10, SCH_S + SCH_H, SCH_F, 10);
 }
 
+/* A DM-SDU with this message, as it is built and read. */
+static void make_sdu(uint8_t carrier, uint8_t fcs, unsigned user)
+{
+	Sdu built;
+
+	sdu.fields = fields_to(INDIVIDUAL);
+	sdu.fields.message = carrier;
+	sdu.fields.elements = fcs;
+	sdu.fcs = fcs;
+	sdu.user = user;
+	sdu.fault = 0;
+	memset(sdu.bytes, 0, sizeof sdu.bytes);
+	BUILD_TRANSPORT(built, carrier, fcs, &sdu.message, user, messages[0], ROOM, sdu.bytes,
+			sizeof sdu.bytes);
+	if (built.fault)
+		fail("a build of a DM-SDU was refused");
+	sdu.n = built.bits;
+	sdu.length = ROOM;
+}
+
+static void plain_transfer(void)
+{
+	memset(&sdu.message, 0, sizeof sdu.message);
+	sdu.message.kind = TRANSFER;
+	sdu.message.protocol = 130;
+	sdu.message.request = 1;
+	sdu.message.reference = 77;
+}
+
+/* With a calling party and a forward address. */
+static void stored_transfer(void)
+{
+	plain_transfer();
+	sdu.message.addressed = 1;
+	sdu.message.mni = MNI;
+	sdu.message.ssi = OTHER;
+	sdu.message.storage = 1;
+	sdu.message.validity = 9;
+	sdu.message.forward = 2;
+	sdu.message.address = (uint64_t)GROUP << 24 | MNI;
+}
+
+static void make_transfer(void)
+{
+	plain_transfer();
+	make_sdu(23, 0, 128);
+}
+
+static void make_transfer_stored(void)
+{
+	stored_transfer();
+	make_sdu(23, 0, 128);
+}
+
+static void make_transfer_fcs(void)
+{
+	stored_transfer();
+	make_sdu(23, 1, 128);
+}
+
+static void make_short_report(void)
+{
+	memset(&sdu.message, 0, sizeof sdu.message);
+	sdu.message.kind = SHORT_REPORT;
+	sdu.message.status = 2;
+	sdu.message.reference = 77;
+	make_sdu(24, 0, 0);
+}
+
+/* The same in three bytes. */
+static void make_short_few(void)
+{
+	make_short_report();
+	sdu.length = 3;
+}
+
+/* A forward address type that is not direct mode's: it stands in bits 97 to 99. */
+static void make_not_told(void)
+{
+	make_transfer_stored();
+	sdu.bytes[12] ^= 0x20;
+	sdu.fault = 21;
+}
+
+/* An FCS that is wrong. */
+static void make_wrong_fcs(void)
+{
+	make_transfer_fcs();
+	sdu.bytes[sdu.n / 8 - 1] ^= 0x80;
+	sdu.fault = 21;
+}
+
+static void make_long_fcs(void)
+{
+	plain_transfer();
+	make_sdu(23, 1, 2000);
+}
+
+/* An index of so many pairs, all of other references; the newest `again` of them is the transfer's. */
+static void make_index(unsigned count, unsigned again)
+{
+	FRESH_BOOKINGS(index_.bookings);
+	for (unsigned i = 0; i < count; i++) {
+		Booked booked;
+
+		plain_transfer();
+		if (i != count - again)
+			sdu.message.reference = 100 + i;
+		make_sdu(23, 0, 128);
+		BOOK(booked, index_.bookings, &sdu.fields, sdu.n, sdu.bytes, sdu.length);
+		if (FAULT_OF(booked) || MARK_OF(booked) != BOOKED)
+			fail("a booking for an index was refused");
+	}
+	index_.mark = again ? AGAIN : BOOKED;
+	make_transfer();
+}
+
+static void make_few_booked(void)
+{
+	make_index(4, 0);
+}
+
+static void make_full_index(void)
+{
+	make_index(PAIRS, 0);
+}
+
+static void make_again(void)
+{
+	make_index(PAIRS, PAIRS / 2);
+}
+
+static void make_book_report(void)
+{
+	make_index(PAIRS, 0);
+	make_short_report();
+	index_.mark = NOT_BOOKED;
+}
+
 static void make_none(void)
 {
 }
@@ -474,6 +635,51 @@ static void count_fresh(unsigned passes)
 
 		FRESH(unit, INDIVIDUAL, GROUP, MNI);
 		used += unit.fault;
+	}
+}
+
+static void count_transport(unsigned passes)
+{
+	while (passes--) {
+		Transport found;
+
+		READ_TRANSPORT(found, &sdu.fields, sdu.n, sdu.bytes, sdu.length);
+		used += TRANSPORT_OF(found).bits;
+	}
+}
+
+static void count_sdu(unsigned passes)
+{
+	static uint8_t out[LONGEST_SDU];
+
+	while (passes--) {
+		Sdu built;
+
+		BUILD_TRANSPORT(built, sdu.fields.message, sdu.fcs, &sdu.message, sdu.user,
+				messages[0], ROOM, out, LONGEST_SDU);
+		used += built.bits;
+	}
+}
+
+/* Each pass has a copy of the index. */
+static void count_book(unsigned passes)
+{
+	while (passes--) {
+		Bookings bookings = index_.bookings;
+		Booked booked;
+
+		BOOK(booked, bookings, &sdu.fields, sdu.n, sdu.bytes, sdu.length);
+		used += MARK_OF(booked);
+	}
+}
+
+static void count_fresh_bookings(unsigned passes)
+{
+	while (passes--) {
+		Bookings bookings;
+
+		FRESH_BOOKINGS(bookings);
+		used += bookings.count;
 	}
 }
 
@@ -653,6 +859,84 @@ static unsigned check_fresh(void)
 	return 1;
 }
 
+static void add_message(const Message *m)
+{
+	add(m->kind);
+	add(m->addressed);
+	add(m->mni);
+	add(m->ssi);
+	add(m->protocol);
+	add(m->request);
+	add(m->short_form);
+	add(m->required);
+	add(m->storage);
+	add(m->status);
+	add(m->reference);
+	add(m->validity);
+	add(m->forward);
+	add(m->address);
+}
+
+static unsigned check_transport(void)
+{
+	Transport found;
+
+	ON_PAINT(READ_TRANSPORT(found, &sdu.fields, sdu.n, sdu.bytes, sdu.length));
+	if (found.fault != sdu.fault ||
+	    TRANSPORT_OF(found).bits != (found.fault ? 0 : sdu.user) ||
+	    TRANSPORT_OF(found).message.reference != (found.fault ? 0 : 77))
+		fail("a DM-SDU was read otherwise than expected");
+	add(found.fault);
+	add_message(&TRANSPORT_OF(found).message);
+	add(TRANSPORT_OF(found).first);
+	add(TRANSPORT_OF(found).bits);
+	return 1;
+}
+
+static unsigned check_sdu(void)
+{
+	static uint8_t out[LONGEST_SDU];
+	Sdu built;
+
+	memset(out, PAINT, sizeof out);
+	ON_PAINT(BUILD_TRANSPORT(built, sdu.fields.message, sdu.fcs, &sdu.message, sdu.user,
+				 messages[0], ROOM, out, LONGEST_SDU));
+	if (built.fault || built.bits != sdu.n || memcmp(out, sdu.bytes, (sdu.n + 7) / 8))
+		fail("a DM-SDU was built otherwise than expected");
+	add(built.bits);
+	add_bytes(out, sizeof out);
+	return 1;
+}
+
+/* The same message once more is marked again. */
+static unsigned check_book(void)
+{
+	Bookings bookings = index_.bookings;
+	Booked booked;
+
+	ON_PAINT(BOOK(booked, bookings, &sdu.fields, sdu.n, sdu.bytes, sdu.length));
+	if (FAULT_OF(booked) || MARK_OF(booked) != index_.mark)
+		fail("a booking came to something else than expected");
+	add(MARK_OF(booked));
+	add_message(&BOOKED_OF(booked).message);
+	add(BOOKED_OF(booked).first);
+	add(BOOKED_OF(booked).bits);
+	BOOK(booked, bookings, &sdu.fields, sdu.n, sdu.bytes, sdu.length);
+	if (MARK_OF(booked) != (index_.mark ? AGAIN : NOT_BOOKED))
+		fail("a second booking came to something else than expected");
+	return 1;
+}
+
+static unsigned check_fresh_bookings(void)
+{
+	Bookings bookings;
+
+	ON_PAINT(FRESH_BOOKINGS(bookings));
+	if (bookings.count)
+		fail("a fresh index is not empty");
+	return 1;
+}
+
 static const struct measured {
 	const char *name;
 	void (*make)(void);
@@ -677,6 +961,22 @@ static const struct measured {
 	{"block-fill", make_block_fill, count_block, check_block},
 	{"due-frame", make_none, count_due, check_due},
 	{"fresh", make_none, count_fresh, check_fresh},
+	{"tl-transfer", make_transfer, count_transport, check_transport},
+	{"tl-stored", make_transfer_stored, count_transport, check_transport},
+	{"tl-fcs", make_transfer_fcs, count_transport, check_transport},
+	{"tl-short", make_short_report, count_transport, check_transport},
+	{"tl-few", make_short_few, count_transport, check_transport},
+	{"tl-refused", make_not_told, count_transport, check_transport},
+	{"tl-wrong", make_wrong_fcs, count_transport, check_transport},
+	{"sdu-short", make_short_report, count_sdu, check_sdu},
+	{"sdu-transfer", make_transfer, count_sdu, check_sdu},
+	{"sdu-stored", make_transfer_stored, count_sdu, check_sdu},
+	{"sdu-2000", make_long_fcs, count_sdu, check_sdu},
+	{"book-booked", make_few_booked, count_book, check_book},
+	{"book-again", make_again, count_book, check_book},
+	{"book-full", make_full_index, count_book, check_book},
+	{"book-report", make_book_report, count_book, check_book},
+	{"fresh-bookings", make_none, count_fresh_bookings, check_fresh_bookings},
 };
 
 #define CASES (sizeof cases / sizeof cases[0])

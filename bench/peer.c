@@ -221,10 +221,90 @@ static void probe_layout(const uint8_t *body)
 	printf("frame %d %d\n", due.fault, due.frame);
 }
 
-/* Makes one call; 0 if its record is too short. */
-static int call(Fresh *unit, const struct record *record)
+static void print_message(const Message *m)
 {
-	static const uint8_t fixed[] = {SETTINGS, 0, 0, 0, 5, 35, 2, 0, 3};
+	printf(" %d %d %" PRIu32 " %" PRIu32 " %d %d %d %d %d %d %d %d %d %" PRIu64, m->kind,
+	       m->addressed, m->mni, m->ssi, m->protocol, m->request, m->short_form, m->required,
+	       m->storage, m->status, m->reference, m->validity, m->forward, m->address);
+}
+
+/* Message type, elements and n of a DM-SDU. Its FCS flag is the last of the elements. */
+static uint32_t take_lent(struct input *body, Fields *f)
+{
+	f->message = take_number(body, 1);
+	f->elements = take_number(body, 8);
+	return take_number(body, 4);
+}
+
+static void probe_transport(struct input body)
+{
+	Fields f;
+	Transport found;
+	uint32_t n;
+
+	memset(&f, 0, sizeof f);
+	n = take_lent(&body, &f);
+	READ_TRANSPORT(found, &f, n, body.at, body.left);
+	printf("transport %d", found.fault);
+	print_message(&TRANSPORT_OF(found).message);
+	printf(" %u %u\n", (unsigned)TRANSPORT_OF(found).first,
+	       (unsigned)TRANSPORT_OF(found).bits);
+}
+
+static void probe_sdu(struct input body)
+{
+	uint8_t out[LARGEST_BUFFER], carrier, fcs;
+	Message m;
+	Sdu sdu;
+	uint32_t n;
+	size_t room;
+
+	carrier = take_number(&body, 1);
+	fcs = take_number(&body, 1);
+	m.addressed = take_number(&body, 1);
+	m.mni = take_number(&body, 4);
+	m.ssi = take_number(&body, 4);
+	m.kind = take_number(&body, 1);
+	m.protocol = take_number(&body, 1);
+	m.request = take_number(&body, 1);
+	m.short_form = take_number(&body, 1);
+	m.required = take_number(&body, 1);
+	m.storage = take_number(&body, 1);
+	m.status = take_number(&body, 1);
+	m.reference = take_number(&body, 1);
+	m.validity = take_number(&body, 1);
+	m.forward = take_number(&body, 1);
+	m.address = take_number(&body, 8);
+	n = take_number(&body, 4);
+	room = take_number(&body, 2);
+	if (room > sizeof out) {
+		puts("kind");
+		return;
+	}
+	memset(out, BEFORE, sizeof out);
+	BUILD_TRANSPORT(sdu, carrier, fcs, &m, n, body.at, body.left, out, room);
+	printf("sdu %d %u", sdu.fault, (unsigned)sdu.bits);
+	print_output(out, (sdu.bits + 7) / 8, room);
+}
+
+static void probe_book(Bookings *bookings, struct input body)
+{
+	Fields f;
+	Booked booked;
+	uint32_t n;
+
+	memset(&f, 0, sizeof f);
+	f.source.ssi = take_number(&body, 4);
+	n = take_lent(&body, &f);
+	BOOK(booked, *bookings, &f, n, body.at, body.left);
+	printf("book %d %d %d %d\n", FAULT_OF(booked), MARK_OF(booked),
+	       BOOKED_OF(booked).message.kind, BOOKED_OF(booked).message.reference);
+}
+
+/* Makes one call; 0 if its record is too short. */
+static int call(Fresh *unit, Bookings *bookings, const struct record *record)
+{
+	static const uint8_t fixed[] = {SETTINGS, 0, 0, 0, 5, 35, 2, 0, 3, 13, 35, 0, 17};
 	struct input body = record->body;
 
 	if (body.left > LARGEST_BODY)
@@ -255,6 +335,19 @@ static int call(Fresh *unit, const struct record *record)
 	case 8:
 		probe_layout(body.at);
 		return 1;
+	case 9:
+		probe_transport(body);
+		return 1;
+	case 10:
+		probe_sdu(body);
+		return 1;
+	case 11:
+		FRESH_BOOKINGS(*bookings);
+		puts("bookings");
+		return 1;
+	case 12:
+		probe_book(bookings, body);
+		return 1;
 	default:
 		puts("kind");
 		return 1;
@@ -264,11 +357,13 @@ static int call(Fresh *unit, const struct record *record)
 static void probe(struct input in)
 {
 	static Fresh unit;
+	static Bookings bookings;
 	struct record record;
 
 	FRESH(unit, 0, 0, 0);
+	FRESH_BOOKINGS(bookings);
 	while (in.left) {
-		if (!next_record(&in, &record) || !call(&unit, &record)) {
+		if (!next_record(&in, &record) || !call(&unit, &bookings, &record)) {
 			puts("cut");
 			return;
 		}

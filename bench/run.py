@@ -41,10 +41,27 @@ CASES = [
     Case("block-fill", "read block, 254 bits of fill", 10, 60, True),
     Case("due-frame", "frame of a block", 1, 3, False),
     Case("fresh", "fresh receiver", 10, 60, False),
+    Case("tl-transfer", "read transfer", 10, 60, True),
+    Case("tl-stored", "read transfer, calling party and storage", 10, 60, True),
+    Case("tl-fcs", "read transfer, the same with FCS", 10, 30, True),
+    Case("tl-short", "read short report", 10, 60, True),
+    Case("tl-few", "read short report, 3 bytes lent", 10, 60, True),
+    Case("tl-refused", "read transfer, forward type refused", 10, 60, True),
+    Case("tl-wrong", "read transfer, FCS wrong", 10, 30, True),
+    Case("sdu-short", "build short report", 10, 60, True),
+    Case("sdu-transfer", "build transfer", 10, 60, True),
+    Case("sdu-stored", "build transfer, calling party and storage", 10, 60, True),
+    Case("sdu-2000", "build transfer, 2,000 bits and FCS", 5, 10, True),
+    Case("book-booked", "book, 4 in the index", 10, 60, True),
+    Case("book-again", "book, again", 10, 60, True),
+    Case("book-full", "book, a full index", 10, 60, True),
+    Case("book-report", "book, no transfer", 10, 60, True),
+    Case("fresh-bookings", "fresh bookings", 10, 60, False),
 ]
 IMPLEMENTATIONS = ["library", "plain", "osmo"]
 CALLS = ["fresh", "hear", "build", "read_header", "read_continuation", "due_frame"]
 PLAIN_CALLS = ["fresh", "hear", "build", "read_header", "read_continuation", "layout"]
+TRANSPORT_CALLS = ["read_transport", "build_transport", "fresh_bookings", "book"]
 
 # The goals: the most that the library may take of plain C; less than this of libosmocore; bytes of stack.
 OF_PLAIN = 1.5
@@ -83,7 +100,14 @@ HOW = {
         "accepted. The run is a header in both slots of two frames and then 15 blocks. The mixed log has short messages, runs and copies, messages of others, a block that is",
         "not heard, two damaged headers and a damaged block.",
     ],
-    "size": ["Bytes of what the six calls reach, by the sections of an object in which the linker left only that; without the C library. (a) has the same six."],
+    "sdus": [
+        "What the reads and builds of SDS-TL bring. A transfer has 128 bits of user data, in a DM-SDS DATA; with storage it has a forward address of SSI and extension. It is",
+        "lent in 512 bytes, as pierstrand_hear hands it over, the one short report of 3 bytes apart. A booking has a copy of its index; `again` is the 16th newest of 32.",
+    ],
+    "size": [
+        "Bytes of what the ten calls reach, by the sections of an object in which the linker left only that; without the C library. (a) has the same ten.",
+        "Beside them what some of the calls reach alone, code and data together; they share functions, so these do not add up.",
+    ],
     "stack": [
         "Bytes below the caller that a call touches, with its return address and what is pushed for it: the driver paints 16384 bytes, makes the call, and looks how deep the",
         "paint is gone. The deepest call of each case.",
@@ -211,15 +235,23 @@ def functions(file):
 
 
 def size_lines(folder, library):
-    board = kept(folder, "library", ["pierstrand_" + name for name in CALLS], library)
-    sizes = [("library", sections(board))]
-    for level in ("O2", "Os"):
-        plain = kept(folder, "plain-" + level, ["dm_" + name for name in PLAIN_CALLS], os.path.join(folder, "plain-%s.o" % level))
-        sizes.append(("(a) at -" + level, sections(plain)))
+    def reached(calls, plain_calls=None):
+        """What these calls reach: sections of the library's, and of (a)'s at -O2 and at -Os."""
+        found = [sections(kept(folder, "library", ["pierstrand_" + name for name in calls], library))]
+        for level in ("O2", "Os"):
+            plain = os.path.join(folder, "plain-%s.o" % level)
+            found.append(sections(kept(folder, "plain-" + level, ["dm_" + name for name in plain_calls or calls], plain)))
+        return found
+
+    parts = [("the six of blocks and receiver", CALLS, PLAIN_CALLS), ("the four of SDS-TL", TRANSPORT_CALLS, None)]
+    parts += [("`%s`" % name, [name], None) for name in TRANSPORT_CALLS]
+    of_parts = [[name, *(sum(of) for of in reached(calls, plain))] for name, calls, plain in parts]
+    sizes = list(zip(["library", "(a) at -O2", "(a) at -Os"], reached(CALLS + TRANSPORT_CALLS, PLAIN_CALLS + TRANSPORT_CALLS)))
     ours = sum(sizes[0][1])
     rows = [[name, *of, sum(of), "" if name == "library" else "%.2f" % (ours / sum(of))] for name, of in sizes]
     lines = table(["", "code", "read-only data", "data", "together", "library to it"], rows)
-    lines += table(["function of the library", "bytes"], functions(board))
+    lines += table(["reached alone by", "library", "(a) at -O2", "(a) at -Os", "library to -O2"], [[*row, "%.2f" % (row[1] / row[2])] for row in of_parts])
+    lines += table(["function of the library", "bytes"], functions(os.path.join(folder, "library-reached.o")))
     ratio = ours / sum(sizes[1][1])
     return lines, [["size, at most %s of (a) at -O2" % OF_PLAIN, met(ratio <= OF_PLAIN), "%.2f: %d bytes to %d" % (ratio, ours, sum(sizes[1][1]))]]
 
@@ -258,7 +290,8 @@ def line_lines():
             sums[group] = [one + other for one, other in zip(sums.get(group, [0] * 3), of)]
         rows.append(["**%s**" % group, *sums[group]])
     lines = table(["crate", "definitions (`specs/`)", "code and contracts (`src/`)", "proofs (`proofs/`)"], rows)
-    peers = [("(a)", ["plain/pierstrand_plain.c"]), ("(b)", ["osmo/pierstrand_osmo.c"]), ("both", ["plain/pierstrand_plain.h", "shared/rules.h", "shared/receiver.h"])]
+    shared = ["plain/pierstrand_plain.h", "shared/rules.h", "shared/receiver.h", "shared/transport.h"]
+    peers = [("(a)", ["plain/pierstrand_plain.c", "plain/transport.h"]), ("(b)", ["osmo/pierstrand_osmo.c", "osmo/transport.h"]), ("both", shared)]
     rows = [["%s: %s" % (name, ", ".join("`%s`" % file for file in files)), filled(*(os.path.join(tools.HERE, file) for file in files))] for name, files in peers]
     return lines + table(["C", "lines"], rows)
 
@@ -370,7 +403,7 @@ def everything(words):
     same = "\n".join(HOW["same"]) % compared
     parts = [
         ("Goals", [], goals),
-        ("Instructions", HOW["instructions"], counted + [same, ""] + HOW["logs"] + [""] + logs),
+        ("Instructions", HOW["instructions"], counted + [same, ""] + HOW["logs"] + [""] + logs + HOW["sdus"] + [""]),
         ("Size", HOW["size"], size),
         ("Stack", HOW["stack"], stack),
         ("Lines", HOW["lines"], line_lines()),

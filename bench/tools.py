@@ -63,7 +63,7 @@ def make(goal, folder, library, include):
     """Has bench/Makefile build a goal into a folder."""
     words = ["make", "--silent", "-C", HERE, goal, "OUT=" + folder, "CC=%sgcc" % PREFIX, "LIBRARY=" + library, "INCLUDE=" + include, "RUN=" + " ".join(runner())]
     if not NATIVE:
-        words += ["OSMO_CFLAGS=-I" + OSMO_INCLUDE, "OSMO_LIBS=-L%s -Wl,-rpath-link,%s -losmocore" % (OSMO_LIBS, OSMO_LIBS)]
+        words += ["OSMO_CFLAGS=-isystem " + OSMO_INCLUDE, "OSMO_LIBS=-L%s -Wl,-rpath-link,%s -losmocore" % (OSMO_LIBS, OSMO_LIBS)]
     if subprocess.run(words, env=environment()).returncode:
         sys.exit("make did not build bench/")
 

@@ -1,9 +1,10 @@
 /*
  * A unit's slot handler over Pierstrand, in plain C99. examples/run builds and runs it.
  *
- * slot_handler is the part to copy. The radio calls it once for every slot 1 and every slot 3, in
- * their order, heard or not. All else stands in for the radio: it lays messages out over slots and
- * reports these slots one by one.
+ * slot_handler and hand_over are the part to copy. The radio calls slot_handler once for every slot 1
+ * and every slot 3, in their order, heard or not. A message that comes out goes to hand_over, which
+ * books it if it is a transfer of SDS-TL. All else stands in for the radio: it lays messages out over
+ * slots and reports these slots one by one.
  *
  * A line that starts with six numbers is one of a slot log, with some words after it: frame, slot,
  * outcome, dropped, fault, bits (docs/READING-THE-LOG.md).
@@ -21,6 +22,7 @@
 #define HEADER_BYTES (PIERSTRAND_SCH_S + PIERSTRAND_SCH_H)
 
 static struct pierstrand_receiver receiver;
+static struct pierstrand_bookings bookings;
 static uint8_t message[PIERSTRAND_MESSAGE];
 
 static void print_line(uint8_t frame, uint8_t slot, struct pierstrand_answer a)
@@ -28,6 +30,47 @@ static void print_line(uint8_t frame, uint8_t slot, struct pierstrand_answer a)
 	int width = printf("%u %u %u %u %u %zu", frame, slot, a.outcome, a.dropped, a.fault, a.bits);
 
 	printf("%*s", 16 - width, "");
+}
+
+/* Eight bits from any bit of the message on. */
+static uint8_t byte_at(size_t bit)
+{
+	unsigned two = (unsigned)message[bit / 8] << 8 | (bit % 8 != 0 ? message[bit / 8 + 1] : 0);
+
+	return (uint8_t)(two >> (8 - bit % 8));
+}
+
+static void print_text(size_t first, size_t bits)
+{
+	for (; bits >= 8; first += 8, bits -= 8)
+		putchar(byte_at(first));
+}
+
+/* A whole message. A transfer is booked once, however often it is sent. */
+static void hand_over(struct pierstrand_answer answer)
+{
+	struct pierstrand_booked booked = pierstrand_book(&bookings, answer.fields, answer.bits, message, sizeof message);
+	const struct pierstrand_transport *it = &booked.transport;
+
+	printf("from %u", answer.fields.source.ssi);
+	switch (booked.mark) {
+	case PIERSTRAND_BOOKED: /* here to act on it */
+		printf(", reference %u, booked: ", it->message.reference);
+		print_text(it->first, it->bits);
+		break;
+	case PIERSTRAND_AGAIN:
+		printf(", reference %u, again", it->message.reference);
+		break;
+	default: /* PIERSTRAND_NOT_BOOKED */
+		if (it->fault == 0) {
+			printf(", reference %u, an answer of kind %u", it->message.reference, it->message.kind);
+		} else if (it->fault == PIERSTRAND_NOT_SDS_TL) {
+			printf(": "); /* not of SDS-TL: these units send plain texts too */
+			print_text(0, answer.bits);
+		} else {
+			printf(", refused: fault %u", it->fault);
+		}
+	}
 }
 
 static void slot_handler(uint8_t frame, uint8_t slot, uint8_t kind, const uint8_t *blocks, size_t length)
@@ -38,8 +81,8 @@ static void slot_handler(uint8_t frame, uint8_t slot, uint8_t kind, const uint8_
 	print_line(frame, slot, answer);
 	switch (answer.outcome) {
 	case PIERSTRAND_UNFRAGMENTED:
-	case PIERSTRAND_JOINED: /* a whole message, in both cases: here to act on it */
-		printf("from %u: %.*s", answer.fields.source.ssi, (int)(answer.bits / 8), (const char *)message);
+	case PIERSTRAND_JOINED: /* a whole message, in both cases */
+		hand_over(answer);
 		break;
 	case PIERSTRAND_OPENED:
 		printf("a longer message begins");
@@ -69,25 +112,24 @@ static void put(uint8_t frame, uint8_t slot, uint8_t kind, const uint8_t *bytes,
 }
 
 /*
- * Lays a text out from `frame` on. Its header goes into slots 1 and 3 of this frame and of
+ * Lays `n` bits of a message out from `frame` on. Its header goes into slots 1 and 3 of this frame and of
  * `countdown` frames more, each a build of its own; each block goes into slot 1 of its due frame.
  */
-static void lay_out(const char *text, uint8_t frame, uint8_t countdown)
+static void lay_out(const uint8_t *sent, size_t n, uint8_t fcs, uint8_t frame, uint8_t countdown)
 {
-	/* To this unit from unit 7, as DM-SDS DATA (23), whose elements have 8 bits. */
-	static const struct pierstrand_fields fields = {
+	/* To this unit from unit 7, as DM-SDS DATA (23), whose elements have 8 bits; the last is the FCS flag. */
+	struct pierstrand_fields fields = {
 		.destination = {.kind = 0, .ssi = INDIVIDUAL},
 		.source = {.kind = 0, .ssi = 7},
 		.mni = MNI,
 		.message = 23,
 		.width = 8,
-		.elements = 0x92,
+		.elements = 0x92 | fcs,
 	};
 	static uint8_t out[PIERSTRAND_BLOCKS];
-	size_t length = strlen(text);
 	struct pierstrand_built built = {0, 0};
 
-	printf("\n%zu characters, header in", length);
+	printf(", header in");
 	for (uint8_t gone = 0, at = frame; gone <= countdown; gone++, at = at % 18 + 1) {
 		for (uint8_t slot = 1; slot <= 3; slot += 2) {
 			struct pierstrand_sync sync = {
@@ -97,8 +139,7 @@ static void lay_out(const char *text, uint8_t frame, uint8_t countdown)
 				.frame = at,
 			};
 
-			built = pierstrand_build(sync, countdown - gone, fields, 8 * length,
-						 (const uint8_t *)text, length, out, sizeof out);
+			built = pierstrand_build(sync, countdown - gone, fields, n, sent, (n + 7) / 8, out, sizeof out);
 			if (built.fault != 0) {
 				printf(" refused, fault %u\n", built.fault);
 				return;
@@ -114,6 +155,35 @@ static void lay_out(const char *text, uint8_t frame, uint8_t countdown)
 		printf("%s %u/1", i == 0 ? ", blocks in" : "", due.frame);
 	}
 	printf("\n");
+}
+
+/* A text as it is. */
+static void send_text(const char *text, uint8_t frame, uint8_t countdown)
+{
+	printf("\n%zu characters", strlen(text));
+	lay_out((const uint8_t *)text, 8 * strlen(text), 0, frame, countdown);
+}
+
+/* A text as the user data of a transfer, with an FCS. */
+static void send_transfer(const char *text, uint8_t reference, uint8_t frame, uint8_t countdown)
+{
+	struct pierstrand_message transfer = {
+		.kind = PIERSTRAND_SDS_TRANSFER,
+		.protocol = 192,
+		.request = 1,
+		.reference = reference,
+	};
+	static uint8_t out[PIERSTRAND_SDU];
+	size_t length = strlen(text);
+	struct pierstrand_sdu sdu =
+		pierstrand_build_transport(23, 1, transfer, 8 * length, (const uint8_t *)text, length, out, sizeof out);
+
+	if (sdu.fault != 0) {
+		printf("\na transfer is refused, fault %u\n", sdu.fault);
+		return;
+	}
+	printf("\na transfer, reference %u, %zu characters, %zu bits", reference, length, sdu.bits);
+	lay_out(out, sdu.bits, 1, frame, countdown);
 }
 
 /* Reports both slots of so many frames, from `frame` on; idle ones as silence. */
@@ -174,10 +244,11 @@ int main(void)
 		return 1;
 	}
 	receiver = fresh.receiver;
+	bookings = pierstrand_fresh_bookings();
 	printf("unit %d, group %d, network %d\n", INDIVIDUAL, GROUP, MNI);
 
 	/* Frame 18 comes where the first block would be due. No block goes there: it is in frame 1. */
-	lay_out(answer, 16, 1);
+	send_text(answer, 16, 1);
 	read_blocks(16, 3);
 	report(16, 5);
 	refused(3, 2, sizeof message);
@@ -185,12 +256,18 @@ int main(void)
 	report(3, 1);
 
 	/* Short enough for the header alone, which goes out twice. */
-	lay_out("ok", 4, 0);
+	send_text("ok", 4, 0);
 	report(4, 1);
 
 	/* The second of its blocks, due in frame 7, is not heard. */
-	lay_out(answer, 5, 0);
+	send_text(answer, 5, 0);
 	air[7][1].kind = 0;
 	report(5, 4);
+
+	/* A hire, booked. Nobody acknowledged it, so it is sent again: another message, with the same reference. */
+	send_transfer("Hire 4712: saw 9", 47, 9, 0);
+	report(9, 2);
+	send_transfer("Hire 4712: saw 9", 47, 11, 0);
+	report(11, 2);
 	return 0;
 }

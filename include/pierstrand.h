@@ -1,6 +1,7 @@
 /*
  * Pierstrand: direct mode blocks of EN 300 396-3. Building and reading them, and a receiver that
- * joins what a unit hears, slot by slot.
+ * joins what a unit hears, slot by slot. SDS-TL messages of its Annex E, in the message bits that the
+ * receiver hands over: reading and building them, and an index by which each transfer is booked once.
  *
  * Link target/staticlib/libboard.a (`rt staticlib board`). It is for x86-64 with the System V calling
  * convention, as on Linux, and uses the SSE registers and the red zone. Of a C library it needs memcpy,
@@ -9,24 +10,26 @@
  *
  * Every call takes every number and every lent byte, ends, and answers. A call that is refused
  * answers a fault's number (enum pierstrand_fault) and 0 for everything else, and changes neither
- * a field of the receiver nor a byte of a lent buffer. That is proved of each call
+ * a field of the receiver or of the bookings nor a byte of a lent buffer. That is proved of each call
  * (docs/PROMISES.md); nobody has to check first. What no proof can see is what C code hands over, so
  * this is asked of it:
  *
  *   - A pointer is not null, is aligned for its type, and has behind it what the call says. That
  *     holds for a length of 0 too: pass any array then.
- *   - What a call writes (the receiver, `message` of pierstrand_hear, `out`) shares no byte with
- *     anything else that it is lent, and no other thread or interrupt touches what is lent until
- *     the call is over.
- *   - A receiver comes from pierstrand_fresh, and then only pierstrand_hear writes to it. It may be
- *     copied as a whole, and each copy goes on from there. Its fields are shown so that its size is
- *     known: do not read them for a decision, and do not touch them.
+ *   - What a call writes (the receiver, the bookings, `message` of pierstrand_hear, `out`) shares no
+ *     byte with anything else that it is lent, and no other thread or interrupt touches what is lent
+ *     until the call is over.
+ *   - A receiver comes from pierstrand_fresh, and then only pierstrand_hear writes to it. Bookings
+ *     come from pierstrand_fresh_bookings, and then only pierstrand_book writes to them. Each may be
+ *     copied as a whole, and each copy goes on from there. Their fields are shown so that their size
+ *     is known: do not read them for a decision, and do not touch them.
  *   - A number fits its parameter. C cuts a larger one without a word: frame 257 arrives as frame 1.
  *
  * What is lent belongs to the caller again after the call: no pointer is kept.
  *
  * Structs have bytes between their fields, of which nothing is promised: compare fields, not bytes,
- * and do not hand a receiver's bytes to others, since left-overs of the stack may stand there.
+ * and do not hand a receiver's bytes, or those of bookings, to others, since left-overs of the stack may
+ * stand there.
  *
  * Bits are packed eight to a byte, the first bit highest: bit 0 is the highest of the first byte.
  */
@@ -51,6 +54,13 @@ extern "C" {
 /* Bytes of an output that is long enough for every message: SCH/S, SCH/H and fifteen SCH/F. */
 #define PIERSTRAND_BLOCKS (PIERSTRAND_SCH_S + PIERSTRAND_SCH_H + 15 * PIERSTRAND_SCH_F)
 
+/* Bytes of an output that is long enough for every DM-SDU: 2,147 bits, those of a transfer with a calling
+   party, 2,047 bits of user defined data 4 and an FCS. */
+#define PIERSTRAND_SDU 269
+
+/* Pairs that are kept of the last transfers that were booked. */
+#define PIERSTRAND_PAIRS 32
+
 /* Why a call was refused, or a block counts as nothing heard. 0: no fault. */
 enum pierstrand_fault {
 	PIERSTRAND_LENGTH = 1,        /* a lent block has another length, or a build's output is too short;
@@ -67,12 +77,15 @@ enum pierstrand_fault {
 	PIERSTRAND_FILL = 11,         /* fill told of, no 1 in the DM-SDU's room */
 	PIERSTRAND_PDU_TYPE = 12,     /* an SCH/F that is neither DMAC-FRAG nor DMAC-END */
 	PIERSTRAND_RANGE = 13,        /* a number too large for its field, an absent one not 0, a width that is not
-					 the elements', or n above the bits lent */
+					 the elements', or n above the bits lent; user data that is not the kind's, or
+					 too long; book: a source of 2^24 or more */
 	PIERSTRAND_TOO_LONG = 14,     /* more than fifteen continuation blocks */
 	PIERSTRAND_REPORT_FRAME = 15, /* report: frame not 1 to 18 */
 	PIERSTRAND_REPORT_SLOT = 16,  /* report: slot not 1 or 3 */
 	PIERSTRAND_BUFFER = 17,       /* report: message buffer under 512 bytes */
-	PIERSTRAND_PLACE = 18         /* report: the block's frame or slot is not the report's */
+	PIERSTRAND_PLACE = 18,        /* report: the block's frame or slot is not the report's */
+	PIERSTRAND_NOT_SDS_TL = 21,   /* not an SDS-TL message, or too short to tell; its FCS is wrong */
+	PIERSTRAND_TOO_SHORT = 22     /* an SDS-TL message that is shorter than its fixed elements */
 };
 
 /* What a report came to. */
@@ -90,6 +103,21 @@ enum pierstrand_kind {
 	PIERSTRAND_SILENCE = 1, /* nothing: 0 bytes */
 	PIERSTRAND_HEADER = 2,  /* SCH/S, then SCH/H: 24 bytes */
 	PIERSTRAND_BLOCK = 3    /* SCH/F: 34 bytes */
+};
+
+/* The four SDS-TL messages. */
+enum pierstrand_sds {
+	PIERSTRAND_SDS_TRANSFER = 1,
+	PIERSTRAND_SDS_REPORT = 2,
+	PIERSTRAND_SDS_ACK = 3,
+	PIERSTRAND_SDS_SHORT_REPORT = 4
+};
+
+/* What a booking came to. */
+enum pierstrand_mark {
+	PIERSTRAND_NOT_BOOKED = 0, /* nothing to book: refused, or no transfer */
+	PIERSTRAND_BOOKED = 1,     /* a transfer, and it is booked */
+	PIERSTRAND_AGAIN = 2       /* a transfer whose pair is among the last 32 booked: it is not booked again */
 };
 
 /* SCH/S but for its fixed elements. */
@@ -194,6 +222,50 @@ struct pierstrand_fresh {
 	struct pierstrand_receiver receiver;
 };
 
+/* An SDS-TL message's elements (EN 300 392-2, 29.4.2), but for its user data. One that it does not have is 0. */
+struct pierstrand_message {
+	uint8_t kind;       /* enum pierstrand_sds; 0 where it was refused */
+	uint8_t addressed;  /* 1 with a calling party; never in a DM-SDS ACK */
+	uint32_t mni;       /* the calling party's, 24 bits */
+	uint32_t ssi;       /* 24 bits */
+	uint8_t protocol;   /* protocol identifier, 128 or more; not in a short report */
+	uint8_t request;    /* transfer: delivery report request, 2 bits */
+	uint8_t short_form; /* transfer: short form report, 1 bit */
+	uint8_t required;   /* report: acknowledgement required, 1 bit */
+	uint8_t storage;    /* transfer and report: 1 where validity, forward and address are there */
+	uint8_t status;     /* report and ack: delivery status, 8 bits; short report: its type, 2 bits */
+	uint8_t reference;  /* message reference, 8 bits */
+	uint8_t validity;   /* validity period, 5 bits */
+	uint8_t forward;    /* forward address type, 3 bits: 1 SSI, 2 SSI and extension, 7 none */
+	uint64_t address;   /* forward address: the SSI, or SSI * 2^24 + extension */
+};
+
+/* A DM-SDU that was read. */
+struct pierstrand_transport {
+	uint8_t fault; /* enum pierstrand_fault */
+	struct pierstrand_message message;
+	size_t first;  /* the first bit of the user data in the DM-SDU; 0 where the kind has none */
+	size_t bits;   /* how many there are */
+};
+
+/* What a build of a DM-SDU answers. */
+struct pierstrand_sdu {
+	uint8_t fault; /* enum pierstrand_fault */
+	size_t bits;   /* of the DM-SDU */
+};
+
+/* The last transfers that were booked, newest first. Not to be touched: see above. What is not there is 0. */
+struct pierstrand_bookings {
+	size_t count;
+	uint32_t pairs[PIERSTRAND_PAIRS];
+};
+
+/* What a booking came to. */
+struct pierstrand_booked {
+	uint8_t mark; /* enum pierstrand_mark */
+	struct pierstrand_transport transport; /* what was read, and the fault */
+};
+
 /*
  * A receiver that has heard nothing, for a unit with these three settings, each below 2^24. A message is
  * for the unit if its MNI is `mni` and its destination is a true address, type 0, that equals
@@ -266,6 +338,65 @@ struct pierstrand_continuation pierstrand_read_continuation(const uint8_t *sch_f
  * Refused in this order: 7, 13 (countdown above 3), 14 (block above 14).
  */
 struct pierstrand_due pierstrand_due_frame(uint8_t frame, uint8_t countdown, uint8_t block);
+
+/*
+ * Reads an SDS-TL message from the first n bits of a DM-SDU: of the bits that pierstrand_hear handed over
+ * (its answer's `bits` and `fields`), or of those of a header that was read alone. Copies nothing: the user
+ * data stays where it is, `bits` of it from bit `first` of `sdu` on.
+ *
+ *   fields   of the header that it came with: `message`, 22 DM-SDS UDATA, 23 DM-SDS DATA or 24 DM-SDS ACK,
+ *            and the last bit of `elements`, the FCS flag, are looked at
+ *   n        bits of the DM-SDU, from the start of `sdu`
+ *   sdu      `length` bytes, 8 * length bits at least n; it is only read
+ *
+ * Refused in this order: 13 (n above the bits lent), 21, 22. 21: another message type, or what can't be told
+ * to be one of the four, by its acknowledgement type, additional address type, short data type, protocol
+ * identifier, message type or status, or because n or the length indicator ends before these; a transfer in
+ * a DM-SDS ACK; a forward address type that is not direct mode's; an FCS that is all there and wrong. 22: one
+ * of the four that ends before the last element ahead of its user data, or has fewer bits than the length
+ * indicator says, or an FCS that is not all there.
+ */
+struct pierstrand_transport pierstrand_read_transport(struct pierstrand_fields fields, size_t n,
+						      const uint8_t *sdu, size_t length);
+
+/*
+ * Builds the DM-SDU of an SDS-TL message, for a header with this message type and this FCS flag, the last of
+ * its elements: pierstrand_build takes it as its message, with `bits` for n. It goes to the start of `out`,
+ * the spare bits of its last byte 0; the bytes after it stay as they are.
+ *
+ *   message_type  22 DM-SDS UDATA, 23 DM-SDS DATA, 24 DM-SDS ACK
+ *   fcs           0, or 1: an FCS is written after the message
+ *   n             bits of user data, from the start of `user`; 0 for an ack and a short report
+ *   user          `length` bytes, 8 * length bits at least n; it is only read
+ *   out           `room` bytes; PIERSTRAND_SDU is enough for every DM-SDU
+ *
+ * Refused in this order, with nothing written: 21 (message type; kind; a transfer in a DM-SDS ACK; protocol
+ * identifier below 128; a forward address type other than 1, 2 and 7 where storage is 1), 13 (a number too
+ * large for its field, flags above 1 too; an element not 0 that the kind, a flag or the message type does not
+ * have; n above the bits lent; user defined data 4, the user data and 24 to 88 bits before it, above 2,047
+ * bits, in a DM-SDS ACK above 269, with FCS 237), 1 (`out` is too short).
+ */
+struct pierstrand_sdu pierstrand_build_transport(uint8_t message_type, uint8_t fcs,
+						 struct pierstrand_message message, size_t n,
+						 const uint8_t *user, size_t length,
+						 uint8_t *out, size_t room);
+
+/* Bookings in which there are none yet. */
+struct pierstrand_bookings pierstrand_fresh_bookings(void);
+
+/*
+ * Reads a DM-SDU as pierstrand_read_transport does, and books it where it is a transfer whose pair, source
+ * address and message reference, is not among the last 32 booked: the pair is entered, and of more than 32 the
+ * oldest goes out. A transfer whose pair is there is marked again, and nothing moves: what goes out goes by
+ * booking. Changes the bookings where they stand, and only where the mark is 1.
+ *
+ *   fields   of the header that it came with: `source.ssi`, 0 where it is absent, is looked at too
+ *
+ * Refused in this order: 13 (a source of 2^24 or more, n above the bits lent), 21, 22, as above. The mark is 0
+ * then, as it is for a message that is no transfer, and the bookings are as before.
+ */
+struct pierstrand_booked pierstrand_book(struct pierstrand_bookings *bookings, struct pierstrand_fields fields,
+					 size_t n, const uint8_t *sdu, size_t length);
 
 #ifdef __cplusplus
 }

@@ -50,7 +50,9 @@ def ran(words, **more):
 
 SIZES = {"u8": 1, "u32": 4, "u64": 8, "usize": 8}
 IN_C = {"u8": "uint8_t", "u32": "uint32_t", "usize": "size_t", "&[u8]": "const uint8_t *, size_t", "&mut [u8]": "uint8_t *, size_t"}
-STRUCTS = ("Sync", "Address", "Fields", "Header", "Continuation", "Built", "Due", "Answer", "Receiver", "Fresh")  # in layout.c's order
+STRUCTS = ("Sync", "Address", "Fields", "Header", "Continuation", "Built", "Due", "Answer", "Receiver", "Fresh",
+           "Message", "Transport", "Sdu", "Bookings", "Booked")  # in layout.c's order
+KEYWORDS = {"short": "short_form"}  # a field whose name C has for itself, and what it is called there
 
 
 def sources():
@@ -85,7 +87,8 @@ def measured(found, of, name="", at=0):
     for field, inner in found[of]:
         size, align, _ = measured(found, inner, field)
         end = -(-end // align) * align
-        fields += measured(found, inner, name + "." + field if name else field, at + end)[2]
+        in_c_called = KEYWORDS.get(field, field)
+        fields += measured(found, inner, name + "." + in_c_called if name else in_c_called, at + end)[2]
         end, most = end + size, max(most, align)
     return -(-end // most) * most, most, fields
 
@@ -233,7 +236,7 @@ def differs(what, one, other):
 def programs():
     """What the two programs print, once the header is held to the crates."""
     has, should_have = declared(read(HEADER)), exported()
-    if has != should_have or len(has) < 6:
+    if has != should_have or len(has) < 10:
         fail("the header declares\n  %s\nand the library has\n  %s" % ("\n  ".join(sorted(has)), "\n  ".join(sorted(should_have))))
     texts = {source: printed(source, "clang") for source in (EXAMPLE, LAYOUT)}
     *lines, _ = texts[LAYOUT].splitlines(keepends=True)

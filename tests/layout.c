@@ -45,6 +45,13 @@ struct shape {
 	FIELD(type, in assembly.countdown), FIELD(type, in assembly.kept), FIELD(type, in assembly.bits), \
 	FIELD(type, in assembly.store)
 
+#define MESSAGE(type, in) \
+	FIELD(type, in kind), FIELD(type, in addressed), FIELD(type, in mni), FIELD(type, in ssi), FIELD(type, in protocol), \
+	FIELD(type, in request), FIELD(type, in short_form), FIELD(type, in required), FIELD(type, in storage), \
+	FIELD(type, in status), FIELD(type, in reference), FIELD(type, in validity), FIELD(type, in forward), FIELD(type, in address)
+#define TRANSPORT(type, in) \
+	FIELD(type, in fault), MESSAGE(type, in message.), FIELD(type, in first), FIELD(type, in bits)
+
 SHAPE(sync, SYNC(sync, ));
 SHAPE(address, ADDRESS(address, ));
 SHAPE(fields, FIELDS(fields, ));
@@ -56,6 +63,11 @@ SHAPE(due, FIELD(due, fault), FIELD(due, frame));
 SHAPE(answer, FIELD(answer, outcome), FIELD(answer, dropped), FIELD(answer, fault), FIELD(answer, bits), FIELDS(answer, fields.));
 SHAPE(receiver, RECEIVER(receiver, ));
 SHAPE(fresh, FIELD(fresh, fault), RECEIVER(fresh, receiver.));
+SHAPE(message, MESSAGE(message, ));
+SHAPE(transport, TRANSPORT(transport, ));
+SHAPE(sdu, FIELD(sdu, fault), FIELD(sdu, bits));
+SHAPE(bookings, FIELD(bookings, count), FIELD(bookings, pairs));
+SHAPE(booked, FIELD(booked, mark), TRANSPORT(booked, transport.));
 
 /* Each struct set by position to 1, 2, 3 ..: with a field more or elsewhere, a number is under another name, or it does not compile. */
 static const struct pierstrand_sync set_sync = {1, 2, 3, 4};
@@ -70,6 +82,12 @@ static const struct pierstrand_receiver set_receiver = {
 	{1, 2, 3}, {4, 5}, {6, {7}, 8}, {9, {{10, 11}, {12, 13}, 14, 15, 16, 17}, {18}, 19, 20, 21, 22, 23, 24, {25}}};
 static const struct pierstrand_fresh set_fresh = {
 	1, {{2, 3, 4}, {5, 6}, {7, {8}, 9}, {10, {{11, 12}, {13, 14}, 15, 16, 17, 18}, {19}, 20, 21, 22, 23, 24, 25, {26}}}};
+
+static const struct pierstrand_message set_message = {1, 2, 3, 4, 5, 6, 7, 8, 9, 10, 11, 12, 13, 14};
+static const struct pierstrand_transport set_transport = {1, {2, 3, 4, 5, 6, 7, 8, 9, 10, 11, 12, 13, 14, 15}, 16, 17};
+static const struct pierstrand_sdu set_sdu = {1, 2};
+static const struct pierstrand_bookings set_bookings = {1, {2}};
+static const struct pierstrand_booked set_booked = {1, {2, {3, 4, 5, 6, 7, 8, 9, 10, 11, 12, 13, 14, 15, 16}, 17, 18}};
 
 /* ---- What is held. */
 
@@ -172,6 +190,54 @@ static uint8_t text[PIERSTRAND_MESSAGE];      /* both messages are the start of 
 static uint8_t blocks[PIERSTRAND_BLOCKS + 8]; /* the long one, built */
 #define CONTINUATION(i) (blocks + HEADER_BYTES + PIERSTRAND_SCH_F * (i))
 
+/*
+ * ---- The four SDS-TL messages, with a number of its own for every element, and their DM-SDUs byte by byte: a transfer in a DM-SDS DATA
+ * with FCS, a report in a DM-SDS ACK, an ack in a DM-SDS UDATA, a short report in a DM-SDS ACK with FCS. User data is the start of the text.
+ */
+
+#define TRANSFER_NUMBERS PIERSTRAND_SDS_TRANSFER, 1, 0xA1B2C3, 0xD4E5F6, 0x8B, 2, 1, 0, 1, 0, 0x9C, 0x15, 2, 0x123456789ABC
+#define REPORT_NUMBERS PIERSTRAND_SDS_REPORT, 0, 0, 0, 0xC5, 0, 0, 1, 1, 0x67, 0x9D, 0x0A, 1, 0x2468AC
+#define ACK_NUMBERS PIERSTRAND_SDS_ACK, 0, 0, 0, 0xE1, 0, 0, 0, 0, 0x76, 0x9E, 0, 0, 0
+#define SHORT_REPORT_NUMBERS PIERSTRAND_SDS_SHORT_REPORT, 0, 0, 0, 0, 0, 0, 0, 0, 2, 0x9F, 0, 0, 0
+#define NO_MESSAGE 0, 0, 0, 0, 0, 0, 0, 0, 0, 0, 0, 0, 0, 0
+
+static const struct tl {
+	struct pierstrand_message message;
+	uint8_t type, fcs;        /* the header's message type and its FCS flag */
+	size_t user, first, bits; /* bits of user data; where they stand; bits of the DM-SDU */
+	uint8_t bytes[25];
+	uint64_t numbers[COUNT(message)];
+} tls[] = {
+	{{.kind = PIERSTRAND_SDS_TRANSFER, .addressed = 1, .mni = 0xA1B2C3, .ssi = 0xD4E5F6, .protocol = 0x8B, .request = 2, .short_form = 1,
+	  .storage = 1, .reference = 0x9C, .validity = 0x15, .forward = 2, .address = 0x123456789ABC},
+	 23, 1, 13, 148, 193,
+	 {0x8D, 0x0D, 0x96, 0x1E, 0xA7, 0x2F, 0xB1, 0x85, 0xD8, 0xB0, 0xB9, 0xCA, 0xA1,
+	  0x23, 0x45, 0x67, 0x89, 0xAB, 0xC1, 0xB4, 0x38, 0xB4, 0x16, 0xEF, 0x00},
+	 {TRANSFER_NUMBERS}},
+	{{.kind = PIERSTRAND_SDS_REPORT, .protocol = 0xC5, .required = 1, .storage = 1, .status = 0x67, .reference = 0x9D, .validity = 0x0A,
+	  .forward = 1, .address = 0x2468AC},
+	 24, 0, 5, 83, 88,
+	 {0x13, 0x08, 0xB8, 0xA3, 0x2C, 0xF3, 0xAA, 0x24, 0x8D, 0x15, 0x83},
+	 {REPORT_NUMBERS}},
+	{{.kind = PIERSTRAND_SDS_ACK, .protocol = 0xE1, .status = 0x76, .reference = 0x9E},
+	 22, 0, 0, 0, 48,
+	 {0x18, 0x20, 0xE1, 0x20, 0x76, 0x9E},
+	 {ACK_NUMBERS}},
+	{{.kind = PIERSTRAND_SDS_SHORT_REPORT, .status = 2, .reference = 0x9F},
+	 24, 1, 0, 0, 56,
+	 {0x14, 0x7E, 0x9F, 0xAE, 0x0B, 0x43, 0x3D},
+	 {SHORT_REPORT_NUMBERS}},
+};
+
+/* The fields of a header that such a DM-SDU came with: only the source, the message type and the last bit of the elements are looked at. */
+static struct pierstrand_fields fields_of(uint32_t source, const struct tl *tl)
+{
+	struct pierstrand_fields f = {.destination = {.kind = 3, .ssi = ~0u}, .source = {.kind = 3, .ssi = source}, .mni = ~0u,
+				      .message = tl->type, .width = 255, .elements = ~(uint64_t)1 | tl->fcs};
+
+	return f;
+}
+
 /* ---- Calls into filled bytes. */
 
 /*
@@ -216,10 +282,18 @@ typedef void *hear_call(void *, void *, uint8_t, uint8_t, uint8_t, const uint8_t
 typedef void *header_call(void *, const uint8_t *, size_t, const uint8_t *, size_t);
 typedef void *continuation_call(void *, const uint8_t *, size_t);
 
+typedef void *transport_call(void *, struct pierstrand_fields, size_t, const uint8_t *, size_t);
+typedef void *fresh_bookings_call(void *);
+typedef void *book_call(void *, void *, struct pierstrand_fields, size_t, const uint8_t *, size_t);
+
 static fresh_call *fresh_into = (fresh_call *)(any_call *)pierstrand_fresh;
 static hear_call *hear_into = (hear_call *)(any_call *)pierstrand_hear;
 static header_call *header_into = (header_call *)(any_call *)pierstrand_read_header;
 static continuation_call *continuation_into = (continuation_call *)(any_call *)pierstrand_read_continuation;
+
+static transport_call *transport_into = (transport_call *)(any_call *)pierstrand_read_transport;
+static fresh_bookings_call *fresh_bookings_into = (fresh_bookings_call *)(any_call *)pierstrand_fresh_bookings;
+static book_call *book_into = (book_call *)(any_call *)pierstrand_book;
 
 /* Each of these calls into both areas, and then, if all was right so far, as C does. What was answered is in the first area. */
 static const uint8_t *fresh_of(uint32_t individual, uint32_t group, uint32_t mni)
@@ -265,6 +339,55 @@ static const uint8_t *continuation_of(const uint8_t *block, size_t length)
 	if (!wrong) {
 		struct pierstrand_continuation it = pierstrand_read_continuation(block, length);
 		same(&continuation, &it, in(&answers[0]));
+	}
+	return in(&answers[0]);
+}
+
+static const uint8_t *transport_of(struct pierstrand_fields f, size_t n, const uint8_t *lent, size_t length)
+{
+	fill(answers);
+	for (int k = 0; k < 2; k++)
+		IS(transport_into(in(&answers[k]), f, n, lent, length) == in(&answers[k]), 1);
+	same(&transport, in(&answers[0]), in(&answers[1]));
+	ends(&transport, answers);
+	if (!wrong) {
+		struct pierstrand_transport it = pierstrand_read_transport(f, n, lent, length);
+		same(&transport, &it, in(&answers[0]));
+	}
+	return in(&answers[0]);
+}
+
+static const uint8_t *fresh_bookings_of(void)
+{
+	fill(answers);
+	for (int k = 0; k < 2; k++)
+		IS(fresh_bookings_into(in(&answers[k])) == in(&answers[k]), 1);
+	same(&bookings, in(&answers[0]), in(&answers[1]));
+	ends(&bookings, answers);
+	if (!wrong) {
+		struct pierstrand_bookings it = pierstrand_fresh_bookings();
+		same(&bookings, &it, in(&answers[0]));
+	}
+	return in(&answers[0]);
+}
+
+/* Three indexes book the same, two of them in filled areas. */
+static area indexes[2];
+static struct pierstrand_bookings plain_index;
+
+static const uint8_t *booked_of(struct pierstrand_fields f, size_t n, const uint8_t *lent, size_t length)
+{
+	fill(answers);
+	for (int k = 0; k < 2; k++)
+		IS(book_into(in(&answers[k]), in(&indexes[k]), f, n, lent, length) == in(&answers[k]), 1);
+	same(&booked, in(&answers[0]), in(&answers[1]));
+	ends(&booked, answers);
+	same(&bookings, in(&indexes[0]), in(&indexes[1]));
+	ends(&bookings, indexes);
+	if (!wrong) {
+		struct pierstrand_booked it = pierstrand_book(&plain_index, f, n, lent, length);
+		same(&booked, &it, in(&answers[0]));
+		same(&bookings, &plain_index, in(&indexes[0]));
 	}
 	return in(&answers[0]);
 }
@@ -330,6 +453,18 @@ static void store_has(size_t bits)
 		size_t left = bits < 8 * i ? 0 : bits - 8 * i;
 
 		IS(store[i], left >= 8 ? text[i] : text[i] & (uint8_t)(0xFF00 >> left));
+	}
+}
+
+/* ---- The pairs of an index: source 1, and references down from `newest`; 0 after them. */
+static void index_has(size_t count, uint32_t newest)
+{
+	HOLDS(bookings, in(&indexes[0]), count, 0);
+	for (size_t i = 0; i < PIERSTRAND_PAIRS; i++) {
+		uint32_t pair;
+
+		memcpy(&pair, in(&indexes[0]) + offsetof(struct pierstrand_bookings, pairs) + i * sizeof pair, sizeof pair);
+		IS(pair, i < count ? 256 + newest - i : 0);
 	}
 }
 
@@ -456,6 +591,93 @@ static void hears(void)
 	RECEIVER_HOLDS(14, 1, 0, 0, 0, NO_ASSEMBLY);
 }
 
+static void transports(void)
+{
+	static uint8_t out[PIERSTRAND_SDU + 8];
+	struct pierstrand_message longest = tls[0].message;
+	struct pierstrand_sdu s;
+
+	for (size_t i = 0; i < sizeof tls / sizeof tls[0]; i++) {
+		const struct tl *tl = &tls[i];
+		struct pierstrand_fields f = fields_of(~0u, tl);
+		size_t length = (tl->bits + 7) / 8, user = (tl->user + 7) / 8;
+		uint64_t read[COUNT(transport)] = {0};
+
+		memset(out, 0x5A, sizeof out);
+		s = pierstrand_build_transport(tl->type, tl->fcs, tl->message, tl->user, text, user, out, length - 1);
+		HOLDS(sdu, &s, PIERSTRAND_LENGTH, 0);
+		s = pierstrand_build_transport(tl->type, tl->fcs, tl->message, 8 * user + 1, text, user, out, sizeof out);
+		HOLDS(sdu, &s, PIERSTRAND_RANGE, 0);
+		s = pierstrand_build_transport(21, tl->fcs, tl->message, tl->user, text, user, out, sizeof out);
+		HOLDS(sdu, &s, PIERSTRAND_NOT_SDS_TL, 0);
+		IS(out[0], 0x5A);
+		s = pierstrand_build_transport(tl->type, tl->fcs, tl->message, tl->user, text, user, out, length);
+		HOLDS(sdu, &s, 0, tl->bits);
+		IS(memcmp(out, tl->bytes, length), 0);
+		for (size_t k = length; k < sizeof out; k++)
+			IS(out[k], 0x5A);
+
+		memcpy(read + 1, tl->numbers, sizeof tl->numbers);
+		read[COUNT(transport) - 2] = tl->first;
+		read[COUNT(transport) - 1] = tl->user;
+		holds(&transport, transport_of(f, tl->bits, tl->bytes, length), read);
+		HOLDS(transport, transport_of(f, 8 * length + 1, tl->bytes, length), PIERSTRAND_RANGE, NO_MESSAGE, 0, 0);
+		HOLDS(transport, transport_of(f, 8, tl->bytes, length), PIERSTRAND_NOT_SDS_TL, NO_MESSAGE, 0, 0);
+		HOLDS(transport, transport_of(f, tl->bits - 1, tl->bytes, length), PIERSTRAND_TOO_SHORT, NO_MESSAGE, 0, 0);
+	}
+
+	/* The longest DM-SDU: user defined data 4 of 2,047 bits, and one more. */
+	longest.storage = longest.validity = longest.forward = 0;
+	longest.address = 0;
+	memset(out, 0x5A, sizeof out);
+	s = pierstrand_build_transport(23, 1, longest, 2047 - 24 + 1, text, sizeof text, out, sizeof out);
+	HOLDS(sdu, &s, PIERSTRAND_RANGE, 0);
+	s = pierstrand_build_transport(23, 1, longest, 2047 - 24, text, sizeof text, out, PIERSTRAND_SDU - 1);
+	HOLDS(sdu, &s, PIERSTRAND_LENGTH, 0);
+	IS(out[0], 0x5A);
+	s = pierstrand_build_transport(23, 1, longest, 2047 - 24, text, sizeof text, out, PIERSTRAND_SDU);
+	HOLDS(sdu, &s, 0, 2147);
+	IS(out[PIERSTRAND_SDU], 0x5A);
+}
+
+/* Transfers from source 1, of which only the reference changes: it stands in bits 84 to 91. */
+static void books(void)
+{
+	struct tl tl = tls[0];
+	const uint8_t *it = fresh_bookings_of();
+
+	HOLDS(bookings, it, 0, 0);
+	fill(indexes);
+	for (int k = 0; k < 2; k++)
+		memcpy(in(&indexes[k]), it, sizeof (struct pierstrand_bookings));
+	index_has(0, 0);
+	if (wrong)
+		return;
+	plain_index = pierstrand_fresh_bookings();
+
+	tl.fcs = 0;
+	for (uint32_t i = 1; i <= PIERSTRAND_PAIRS + 2; i++) {
+		tl.bytes[10] = (uint8_t)(0xB0 | i >> 4);
+		tl.bytes[11] = (uint8_t)(i << 4 | 0x0A);
+		it = booked_of(fields_of(1, &tl), tl.bits - 32, tl.bytes, sizeof tl.bytes);
+		HOLDS(booked, it, PIERSTRAND_BOOKED, 0, PIERSTRAND_SDS_TRANSFER, 1, 0xA1B2C3, 0xD4E5F6, 0x8B, 2, 1, 0, 1, 0, i, 0x15, 2,
+		      0x123456789ABC, 148, 13);
+		index_has(i < PIERSTRAND_PAIRS ? i : PIERSTRAND_PAIRS, i);
+	}
+
+	/* The newest again; the short report and what is refused book nothing. */
+	it = booked_of(fields_of(1, &tl), tl.bits - 32, tl.bytes, sizeof tl.bytes);
+	HOLDS(booked, it, PIERSTRAND_AGAIN, 0, PIERSTRAND_SDS_TRANSFER, 1, 0xA1B2C3, 0xD4E5F6, 0x8B, 2, 1, 0, 1, 0, PIERSTRAND_PAIRS + 2,
+	      0x15, 2, 0x123456789ABC, 148, 13);
+	it = booked_of(fields_of(1, &tls[3]), tls[3].bits, tls[3].bytes, sizeof tls[3].bytes);
+	HOLDS(booked, it, PIERSTRAND_NOT_BOOKED, 0, SHORT_REPORT_NUMBERS, 0, 0);
+	it = booked_of(fields_of(1 << 24, &tl), tl.bits - 32, tl.bytes, sizeof tl.bytes);
+	HOLDS(booked, it, PIERSTRAND_NOT_BOOKED, PIERSTRAND_RANGE, NO_MESSAGE, 0, 0);
+	it = booked_of(fields_of(2, &tl), 0, tl.bytes, sizeof tl.bytes);
+	HOLDS(booked, it, PIERSTRAND_NOT_BOOKED, PIERSTRAND_NOT_SDS_TL, NO_MESSAGE, 0, 0);
+	index_has(PIERSTRAND_PAIRS, PIERSTRAND_PAIRS + 2);
+}
+
 /* The other faults: bits of the long header turned, other lengths, the longest message. */
 static void faults(void)
 {
@@ -510,10 +732,17 @@ int main(void)
 	print_shape(&answer, &set_answer);
 	print_shape(&receiver, &set_receiver);
 	print_shape(&fresh, &set_fresh);
+	print_shape(&message, &set_message);
+	print_shape(&transport, &set_transport);
+	print_shape(&sdu, &set_sdu);
+	print_shape(&bookings, &set_bookings);
+	print_shape(&booked, &set_booked);
 	builds();
 	reads();
 	hears();
 	faults();
+	transports();
+	books();
 	printf("%lu held, %lu wrong\n", held, wrong);
 	return wrong != 0;
 }

@@ -302,3 +302,4 @@ static void clear_countdown(uint8_t *h, int fragmented)
 }
 
 #include "../shared/receiver.h"
+#include "transport.h"

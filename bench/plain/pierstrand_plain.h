@@ -1,5 +1,6 @@
 /*
- * Direct mode blocks of EN 300 396-3: reading, building, and a receiver of slot reports.
+ * Direct mode blocks of EN 300 396-3: reading, building, and a receiver of slot reports. SDS-TL
+ * messages: reading, building, and an index of what was booked.
  * The calls of the proved library, in plain C. Both peers have them.
  *
  * Bits are packed eight to a byte, first bit highest. Faults and outcomes are numbers:
@@ -35,7 +36,9 @@ enum dm_fault {
 	DM_REPORT_FRAME = 15, /* report: frame not 1 to 18 */
 	DM_REPORT_SLOT = 16,  /* report: slot not 1 or 3 */
 	DM_BUFFER = 17,       /* report: message buffer under 512 bytes */
-	DM_PLACE = 18         /* report: the block's frame or slot is not the report's */
+	DM_PLACE = 18,        /* report: the block's frame or slot is not the report's */
+	DM_NOT_TL = 21,       /* not an SDS-TL message, or too short to tell */
+	DM_TOO_SHORT = 22     /* an SDS-TL message that is shorter than its fixed elements */
 };
 
 enum dm_outcome {
@@ -52,6 +55,20 @@ enum dm_kind {
 	DM_KIND_NOTHING = 1,
 	DM_KIND_HEADER = 2, /* SCH/S, then SCH/H: 24 bytes */
 	DM_KIND_BLOCK = 3   /* SCH/F: 34 bytes */
+};
+
+/* The four SDS-TL messages. */
+enum dm_tl {
+	DM_TRANSFER = 1,
+	DM_DELIVERY_REPORT = 2,
+	DM_DELIVERY_ACK = 3,
+	DM_SHORT_REPORT = 4
+};
+
+enum dm_mark {
+	DM_NO_BOOKING = 0, /* refused, or no transfer */
+	DM_BOOKED = 1,
+	DM_AGAIN = 2       /* booked before */
 };
 
 /* SCH/S (table 21) but for its fixed elements. The slot is as coded: 0 is slot 1. */
@@ -135,6 +152,45 @@ struct dm_receiver {
 	uint8_t store[DM_STORE];
 };
 
+/* An SDS-TL message's elements; 0 where the message does not have one. */
+struct dm_message {
+	uint64_t address; /* forward address: SSI, or SSI * 2^24 + extension */
+	uint32_t mni;     /* calling party */
+	uint32_t ssi;
+	uint8_t kind;
+	uint8_t addressed; /* 1 with a calling party */
+	uint8_t protocol;
+	uint8_t request;
+	uint8_t short_form;
+	uint8_t required;
+	uint8_t storage;
+	uint8_t status; /* delivery status; a short report's type */
+	uint8_t reference;
+	uint8_t validity;
+	uint8_t forward; /* forward address type */
+};
+
+struct dm_transport {
+	struct dm_message message;
+	uint16_t first; /* the user data's first bit in the DM-SDU */
+	uint16_t bits;
+};
+
+/* The last DM_BOOKINGS booked, each as source * 256 + reference. `next` is where the next one
+   goes: on the oldest, once all are used. */
+#define DM_BOOKINGS 32
+
+struct dm_bookings {
+	uint8_t count;
+	uint8_t next;
+	uint32_t pairs[DM_BOOKINGS];
+};
+
+struct dm_booked {
+	uint8_t mark;
+	struct dm_transport transport;
+};
+
 /* A fresh receiver. Fault 13: a setting is 2^24 or more; the receiver's three are then 0. */
 uint8_t dm_fresh(struct dm_receiver *r, uint32_t individual, uint32_t group, uint32_t mni);
 
@@ -155,5 +211,21 @@ uint8_t dm_read_continuation(const uint8_t *sch_f, size_t length, struct dm_bloc
 
 /* The frame of continuation block i, from 0, for a header in frame x with countdown f. */
 uint8_t dm_layout(uint8_t x, uint8_t f, uint8_t i, uint8_t *frame);
+
+/* Reads the first `n` bits of a DM-SDU of `length` bytes that came with these fields. */
+uint8_t dm_read_transport(const struct dm_fields *fields, uint32_t n, const uint8_t *sdu,
+			  size_t length, struct dm_transport *t);
+
+/* Writes a DM-SDU of `*bits` bits, for a header with message type `carrier` and this FCS flag.
+   `user` has `lent` bytes, `n` bits of them to send; `out` has room for `room` bytes. */
+uint8_t dm_build_transport(uint8_t carrier, uint8_t fcs, const struct dm_message *m, uint32_t n,
+			   const uint8_t *user, size_t lent, uint8_t *out, size_t room,
+			   uint16_t *bits);
+
+void dm_fresh_bookings(struct dm_bookings *b);
+
+/* Reads a DM-SDU, and books it if it is a transfer that is not among the last booked. */
+uint8_t dm_book(struct dm_bookings *b, const struct dm_fields *fields, uint32_t n,
+		const uint8_t *sdu, size_t length, struct dm_booked *booked);
 
 #endif

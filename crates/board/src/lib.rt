@@ -8,16 +8,26 @@ ghost use Rattle.build.specs.Build.{buildOf, outOf};
 ghost use Rattle.reports.specs.Lent.{lent};
 ghost use Rattle.receiver.specs.Held.{freshOf};
 ghost use Rattle.receiver.specs.Reached.{Reached, Hears};
-ghost use Rattle.board.specs.Board.{replied};
+ghost use Rattle.transport.specs.Reading.{readOf};
+ghost use Rattle.transport.specs.Building.{sduOf, outOf as sduIn};
+ghost use Rattle.bookings.specs.Kept.{bookingsAt, Reached as IndexReached};
+ghost use Rattle.bookings.specs.Book.{lent as lentSdu, Books};
+ghost use Rattle.history.specs.Line.{start};
+ghost use Rattle.board.specs.Board.{replied, bookedReply};
 use blocks::continuation::Continuation;
 use blocks::header::Fields;
 use blocks::header::Header;
 use blocks::slots::Due;
 use blocks::sync::Sync;
+use bookings::Booked;
+use bookings::Bookings;
 use build::Built;
 use receiver::Fresh;
 use receiver::Receiver;
 use receiver::answer::Answer;
+use transport::Message;
+use transport::Sdu;
+use transport::Transport;
 
 // A fresh receiver, or the fault of its settings: `Receiver::fresh`.
 #[no_mangle]
@@ -83,4 +93,48 @@ pub extern "C" fn pierstrand_due_frame(x: u8, f: u8, i: u8) -> Due
     ensures { λ r. ⌜ r ≡ dueOf x f i ⌝ }
 {
     blocks::slots::due_frame(x, f, i)
+}
+
+// Reads an SDS-TL message from the first `n` bits of a DM-SDU: `transport::read`.
+#[no_mangle]
+pub extern "C" fn pierstrand_read_transport(fields: Fields, n: usize, sdu: &[u8]) -> Transport
+    ensures { λ r. ⌜ r ≡ readOf (fields .message) (fields .elements) n (now (sdu .entry)) ⌝ }
+{
+    transport::read(fields, n, sdu)
+}
+
+// Builds the DM-SDU of an SDS-TL message with `n` bits of user data: `transport::build`.
+#[no_mangle]
+pub extern "C" fn pierstrand_build_transport(
+    carrier: u8,
+    fcs: u8,
+    message: Message,
+    n: usize,
+    user: &[u8],
+    out: &mut [u8],
+) -> Sdu
+    ensures { λ r. ⌜ (r ≡ sduOf carrier fcs message n (length (now (user .entry))) (length (now (out .entry))))
+        × (now (out .exit) ≡ sduIn carrier fcs message n (now (user .entry)) (now (out .entry))) ⌝ }
+{
+    transport::build(carrier, fcs, message, n, user, out)
+}
+
+// An index in which nothing is booked: `Bookings::fresh`.
+#[no_mangle]
+pub extern "C" fn pierstrand_fresh_bookings() -> Bookings
+    ensures { λ r. ⌜ (r ≡ bookingsAt start) × IndexReached r ⌝ }
+{
+    Bookings::fresh()
+}
+
+// Books a message in the index where it stands: `Bookings::book`, and its index is stored.
+#[no_mangle]
+pub extern "C" fn pierstrand_book(b: &mut Bookings, fields: Fields, n: usize, sdu: &[u8]) -> Booked
+    requires { ⌜ IndexReached (now b) ⌝ }
+    ensures { λ a. ⌜ IndexReached (now (b .exit))
+        × Books (now (b .entry)) (lentSdu fields n (now (sdu .entry))) (bookedReply (now (b .exit)) a) ⌝ }
+{
+    let h = b.book(fields, n, sdu);
+    *b = h.bookings;
+    h.booked
 }
