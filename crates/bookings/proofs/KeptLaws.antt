@@ -87,10 +87,18 @@ pushed-is p bs =
 abbrev marked : Bookings → ℕ → Entered
 marked b m = record { bookings = b; mark = m }
 
-pub entered-by : (b : Bookings) (x : ℕ) (t : Bool) (r : Bookings) (m : ℕ) → t ≡ isIn x (take (b .count) (b .pairs))
-    → r ≡ cond t b (pushed x b) → m ≡ cond t 2 1 → marked r m ≡ enteredIn b x
+-- one that is there
+pub entered-again : (b : Bookings) (x : ℕ) (t : Bool) → t ≡ isIn x (take (b .count) (b .pairs)) → t ≡ true
+    → marked b 2 ≡ enteredIn b x
 unfolding enteredIn
-entered-by b x t r m e q k = rw (sym e) (λ i. marked (q i) (k i))
+entered-again b x t e h = rw (sym e, h) refl
+
+-- one that is not
+pub entered-new : (b : Bookings) (x : ℕ) (t : Bool) {n : ℕ} {ps : List ℕ} → t ≡ isIn x (take (b .count) (b .pairs))
+    → t ≡ false → n ≡ min 32 (b .count + 1) → ps ≡ x ∷ take 31 (b .pairs)
+    → marked (record { count = n; pairs = ps }) 1 ≡ enteredIn b x
+unfolding enteredIn
+entered-new b x t e h en ep = rw (sym e, h) (λ i. marked (record { count = en i; pairs = ep i }) 1)
 
 entered-split : (t : Bool) (p : Pair) (bs : List Pair)
     → enteredAs t (recordOf bs) (number p) ≡ marked (recordOf (entering t p bs)) (cond t 2 1)

@@ -1,11 +1,10 @@
 // The index of the last 32 booked pairs of source address and message reference.
 ghost use mathlib.Core.Path.{_≡_};
-ghost use mathlib.Core.Bool.{cond};
 ghost use mathlib.Core.List.{_∷_};
 ghost use Prim.Native.Nat.{_+_, _*_, _<_, _≤_, _^_};
 ghost use lib.ListN.{length, take};
 ghost use Rattle.history.specs.Line.{start};
-ghost use Rattle.bookings.specs.Kept.{bookingsAt, Reached, isIn, pushed, enteredIn};
+ghost use Rattle.bookings.specs.Kept.{bookingsAt, Reached, isIn, enteredIn};
 ghost use Rattle.bookings.specs.Book.{lent, readingOf, Books};
 use blocks::header::Fields;
 use transport::Transport;
@@ -88,37 +87,28 @@ impl Bookings {
         }
     }
 
-    // With a pair in front and the oldest out, or as it was where the pair is there.
-    fn entered(self, again: bool, pair: u32) -> Bookings
-        requires { ⌜ self .count ≤ 32 ⌝ }
-        ensures { λ r. ⌜ r ≡ cond again self (pushed pair self) ⌝ }
-    {
-        if again {
-            return self;
-        }
-        let mut pairs = self.pairs;
-        push(&mut pairs, pair);
-        if self.count < 32 {
-            return Bookings {
-                count: self.count + 1,
-                pairs,
-            };
-        }
-        Bookings { count: 32, pairs }
-    }
-
-    // Enters a transfer's pair, unless it is there.
+    // Enters a transfer's pair, unless it is there: in front, and the oldest goes out.
     fn enter(self, source: u32, reference: u8) -> Entered
         requires { ⌜ (self .count ≤ 32) × (source < 2 ^ 24) ⌝ }
         ensures { λ r. ⌜ r ≡ enteredIn self (source * 256 + reference) ⌝ }
     {
         let pair = source * 256 + reference as u32;
-        let pairs = self.pairs;
-        let again = is_in(&pairs, self.count, pair);
-        let bookings = self.entered(again, pair);
-        if again {
-            return Entered { bookings, mark: 2 };
+        let mut pairs = self.pairs;
+        if is_in(&pairs, self.count, pair) {
+            return Entered {
+                bookings: self,
+                mark: 2,
+            };
         }
+        push(&mut pairs, pair);
+        if self.count < 32 {
+            let bookings = Bookings {
+                count: self.count + 1,
+                pairs,
+            };
+            return Entered { bookings, mark: 1 };
+        }
+        let bookings = Bookings { count: 32, pairs };
         Entered { bookings, mark: 1 }
     }
 

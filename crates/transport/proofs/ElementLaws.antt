@@ -2,18 +2,20 @@
 use mathlib.Core.Path.{_≡_, refl, sym, ap, _∙_}
 use mathlib.Core.Bool.{Bool, true, false, cond}
 use mathlib.Core.List.{List}
-use Prim.Native.Nat.{ℕ, _+_, _-_, _*_, _^_, _≤_, _<_}
+use Prim.Native.Nat.{ℕ, zero, suc, _+_, _-_, _*_, _/_, _%_, _^_, _≤_, _<_, min}
+use native.Mathlib.Nat.{add-zero, zero-mul, mul-assoc, pow-suc, mod-lt}
 use native.Mathlib.Omega.{arith}
 use lib.Dec.{eqb, ltb}
-use lib.ListN.{length, take, drop, length-take}
-use lib.Pow.{pow-pos}
-use borrow.Author.Tests.{lt-ltb, le-ltb}
-use Rattle.bits.specs.Bits.{bitsOf, num, field}
-use Rattle.bits.proofs.Numbers.{num-take-lt, take-of-drop, fits-in}
+use lib.Bits.{bitAnd, and-mask}
+use lib.ListN.{length, take, drop, length-take, length-drop}
+use lib.Pow.{pow-pos, pow-add, shl-exact, shr-shr, high}
+use lib.Seq.{drop-drop}
+use borrow.Author.Tests.{lt-ltb, le-ltb, ne-eqb, ltb-true, ltb-false}
+use Rattle.bits.specs.Bits.{bitsOf, num, field, Got}
+use Rattle.bits.proofs.Numbers.{take-of-drop, num-field, ones-of}
 use Rattle.bits.proofs.Bytes.{length-bitsOf}
 use Rattle.transport.specs.Layouts.{per, forwardWidth}
-use native.Mathlib.Nat.{zero-add}
-use Rattle.transport.specs.Elements.{whole, Whole, Stands, addressedIn, frontOf, fixedAt, storedAt}
+use Rattle.transport.specs.Elements.{whole, cut, runIn, storedAt}
 
 -- ---- widths
 
@@ -41,98 +43,99 @@ forward-le forward = forward-when (eqb forward 1) (eqb forward 2)
 pub length-sdu : (n : ℕ) (s : List ℕ) → n ≤ 8 * length s → length (take n (bitsOf s)) ≡ n
 length-sdu n s h = rw (length-take n (bitsOf s)) (omega (arith, length-bitsOf s))
 
-pub not-whole : (place w n : ℕ) (s : List ℕ) → n ≤ 8 * length s → n < place + w → Whole place w (take n (bitsOf s)) 0
-not-whole place w n s h l = record {
-  is = rw (lt-ltb (length (take n (bitsOf s))) (place + w) (rw (length-sdu n s h) l)) refl;
-  small = pow-pos w;
-}
+-- ---- runs of bits
 
-pub is-whole : (place w n r : ℕ) (s : List ℕ) → n ≤ 8 * length s → place + w ≤ n → r ≡ field place w (bitsOf s) → Whole place w (take n (bitsOf s)) r
-is-whole place w n r s h l e = record {
-  is = rw (le-ltb (length (take n (bitsOf s))) (place + w) (rw (length-sdu n s h) l), take-of-drop w place n (bitsOf s) l) e;
-  small = rw e (num-take-lt w (drop place (bitsOf s)));
-}
+pub cut-lt : (after w x : ℕ) → cut after w x < 2 ^ w
+unfolding cut
+cut-lt after w x = mod-lt (x / 2 ^ after) (pow-pos w)
 
--- ---- the front
+-- `(x >> after) & ((1 << w) - 1)`
+pub part-code : (x after w : ℕ) → w ≤ 56 → bitAnd (x / 2 ^ after) (1 * 2 ^ w % 2 ^ 64 - 1) ≡ cut after w x
+unfolding cut
+part-code x after w h = rw (ones-of w (omega arith)) (and-mask (x / 2 ^ after) w)
 
-pub flag-in : (ack : ℕ) {b : List Bool} {r : ℕ} → ack ≤ 1 → Whole (4 * ack) (1 - ack) b r → (r ≡ addressedIn ack b) × (r ≤ 1)
-unfolding addressedIn
-flag-in ack {b} {r} h w =
-    let s : r < 2 ^ 1 = fits-in 1 (w .small) (omega arith) in
-    (rw (zero-add (4 * ack)) (w .is), omega arith)
+-- nothing of a run is there
+pub run-none : (place w : ℕ) (b : List Bool) → length b ≤ place → runIn place w b ≡ 0
+unfolding runIn num
+run-none place w b h = let e : min (length b - place) w ≡ 0 = omega arith in rw e (zero-mul (2 ^ (w - 0)))
 
-pub front-read : (ack : ℕ) {b : List Bool} {v₀ a v₂ v₃ v₄ v₅ : ℕ} → Whole 0 (4 * ack) b v₀ → a ≡ addressedIn ack b
-    → let p₂ = 4 * ack + (1 - ack) in let p₃ = p₂ + 4 * a in let p₄ = p₃ + 24 * a in let p₅ = p₄ + 24 * a in
-    Whole p₂ (4 * a) b v₂ → Whole p₃ (24 * a) b v₃ → Whole p₄ (24 * a) b v₄ → Whole p₅ 4 b v₅
-    → record { acknowledged = v₀; addressed = a; kind = v₂; mni = v₃; ssi = v₄; sdti = v₅; next = p₅ + 4 } ≡ frontOf ack b
-unfolding frontOf
-front-read ack w₀ e w₂ w₃ w₄ w₅ = rw (w₀ .is, w₂ .is, w₃ .is, w₄ .is, w₅ .is, e, zero-add (4 * ack)) refl
+-- what is there, and 0s
+pub run-code : (place w m n r : ℕ) (s : List ℕ) → n ≤ 8 * length s → place ≤ n → w ≤ 56 → m ≡ min (n - place) w
+    → Got (bitsOf s) place m r → r * 2 ^ (w - m) % 2 ^ 64 ≡ runIn place w (take n (bitsOf s))
+unfolding runIn
+run-code place w m n r s h l u e g =
+    let there : place + m ≤ n = omega arith in
+    let few : m + (w - m) ≤ 64 = omega arith in
+    rw (length-sdu n s h, ← e, take-of-drop m place n (bitsOf s) there, ← g .is) (shl-exact m (w - m) 64 (g .small) few)
 
--- ---- the message
+shl-shr : (v a : ℕ) → v * 2 ^ a / 2 ^ a ≡ v
+shl-shr v a = ap (λ (y : ℕ). y / 2 ^ a) (sym (add-zero (v * 2 ^ a))) ∙ high v a (pow-pos a)
 
-pub fixed-read : (kind : ℕ) {p₆ p₇ p₈ p₉ p₁₀ p₁₁ p₁₂ p₁₃ p₁₄ p₁₅ p₁₆ v₆ v₇ v₈ v₉ v₁₀ v₁₁ v₁₂ v₁₃ v₁₄ v₁₅ v₁₆ : ℕ} {b : List Bool}
-    → Stands 11 p₆ (per kind 11 11 11 0) b v₆ p₇ → Stands 8 p₇ (per kind 8 8 8 0) b v₇ p₈ → Stands 8 p₈ (per kind 4 4 4 0) b v₈ p₉
-    → Stands 8 p₉ (per kind 2 0 0 0) b v₉ p₁₀ → Stands 8 p₁₀ (per kind 1 0 0 0) b v₁₀ p₁₁ → Stands 8 p₁₁ (per kind 0 1 0 0) b v₁₁ p₁₂
-    → Stands 8 p₁₂ (per kind 0 2 4 0) b v₁₂ p₁₃ → Stands 8 p₁₃ (per kind 1 1 0 0) b v₁₃ p₁₄ → Stands 8 p₁₄ (per kind 0 0 0 6) b v₁₄ p₁₅
-    → Stands 8 p₁₅ (per kind 0 8 8 2) b v₁₅ p₁₆ → Whole p₁₆ 8 b v₁₆
-    → record {
-      length = v₆;
-      from = p₇;
-      protocol = v₇;
-      request = v₉;
-      short = v₁₀;
-      required = v₁₁;
-      storage = v₁₃;
-      status = v₁₅;
-      reference = v₁₆;
-      next = p₁₆ + 8;
-    } ≡ fixedAt p₆ kind b
-unfolding fixedAt
-fixed-read kind s₆ s₇ s₈ s₉ s₁₀ s₁₁ s₁₂ s₁₃ s₁₄ s₁₅ w₁₆ =
-    rw (
-      s₆ .is,
-      s₇ .is,
-      s₉ .is,
-      s₁₀ .is,
-      s₁₁ .is,
-      s₁₃ .is,
-      s₁₅ .is,
-      w₁₆ .is,
-      s₁₅ .after,
-      s₁₄ .after,
-      s₁₃ .after,
-      s₁₂ .after,
-      s₁₁ .after,
-      s₁₀ .after,
-      s₉ .after,
-      s₈ .after,
-      s₇ .after,
-      s₆ .after,
-    ) refl
+-- an element of a run that is all there
+pub part-is : (p w after m : ℕ) {place : ℕ} (b : List Bool) → place + m + after ≡ p + w → p ≤ place → place + m ≤ length b
+    → cut after m (runIn p w b) ≡ whole place m b
+unfolding cut runIn
+part-is p w after m {place} b e l h =
+    let j = min (length b - p) w in
+    let k = place - p in
+    let r = j - (k + m) in
+    let x = take j (drop p b) in
+    let lx : length x ≡ j = rw (length-take j (drop p b), length-drop p b) (omega arith) in
+    let ea : after ≡ w - j + r = omega arith in
+    let ex : k + m + r ≡ length x = rw lx (omega arith) in
+    let ek : k + m ≤ j = omega arith in
+    let ep : p + k ≡ place = omega arith in
+    let up : num x * 2 ^ (w - j) / 2 ^ (w - j) ≡ num x = shl-shr (num x) (w - j) in
+    let shifted : num x * 2 ^ (w - j) / 2 ^ after ≡ num x / 2 ^ r =
+    ap (λ (y : ℕ). num x * 2 ^ (w - j) / 2 ^ y) ea ∙ sym (shr-shr (num x * 2 ^ (w - j)) (w - j) r) ∙ ap (λ (y : ℕ). y / 2 ^ r) up in
+    let own : num x / 2 ^ r % 2 ^ m ≡ field place m b =
+    num-field x k m r ex ∙ ap num (take-of-drop m k j (drop p b) ek) ∙ ap (λ (y : List Bool). num (take m y)) (drop-drop k p b)
+    ∙ ap (λ (y : ℕ). field y m b) ep in
+    rw (le-ltb (length b) (place + m) h) (ap (λ (y : ℕ). y % 2 ^ m) shifted ∙ own)
 
-pub stored-read : (p storage : ℕ) {v₁₇ v₁₈ v₁₉ w : ℕ} {b : List Bool} → Whole p (5 * storage) b v₁₇ → Whole (p + 5 * storage) (3 * storage) b v₁₈
-    → w ≡ forwardWidth v₁₈ → Whole (p + 5 * storage + 3 * storage) w b v₁₉
-    → record {
-      validity = v₁₇;
-      forward = v₁₈;
-      address = v₁₉;
-      typed = p + 5 * storage + 3 * storage;
-      next = p + 5 * storage + 3 * storage + w;
-    } ≡ storedAt p storage b
-unfolding storedAt
-stored-read p storage w₁₇ w₁₈ e w₁₉ = rw (w₁₉ .is, e, w₁₇ .is, w₁₈ .is) refl
+-- one bit of a run that is not there
+bit-past : (p w after : ℕ) (b : List Bool) → after + 1 ≤ w → length b - p + (after + 1) ≤ w → cut after 1 (runIn p w b) ≡ 0
+unfolding cut runIn
+bit-past p w after b h u =
+    let j = min (length b - p) w in
+    let x = num (take j (drop p b)) in
+    let r = w - j - (after + 1) in
+    let e : w - j ≡ suc r + after = omega arith in
+    let split : x * 2 ^ (w - j) ≡ x * 2 ^ r * 2 * 2 ^ after =
+    ap (λ (y : ℕ). x * 2 ^ y) e
+    ∙ rw (pow-add 2 (suc r) after, pow-suc 2 r, ← mul-assoc x (2 ^ r * 2) (2 ^ after), ← mul-assoc x (2 ^ r) 2) refl in
+    ap (λ (y : ℕ). y / 2 ^ after % 2 ^ 1) split ∙ ap (λ (y : ℕ). y % 2 ^ 1) (shl-shr (x * 2 ^ r * 2) after) ∙ omega arith
 
-pub length-le : {w : ℕ} (kind : ℕ) → w ≡ per kind 11 11 11 0 → w ≤ 11
-length-le kind e = rw e (per-le 11 kind 11 11 11 0 (omega arith) (omega arith) (omega arith) (omega arith))
+-- one bit of a run, there or not
+bit-when : (p w after : ℕ) {place : ℕ} (b : List Bool) (t : Bool) → ltb (length b) (place + 1) ≡ t → place + 1 + after ≡ p + w → p ≤ place
+    → cut after 1 (runIn p w b) ≡ whole place 1 b
+bit-when p w after {place} b false t e l = part-is p w after 1 b e l (ltb-false (length b) (place + 1) t)
+bit-when p w after {place} b true t e l = rw t (bit-past p w after b (omega arith) (let h = ltb-true (length b) (place + 1) t in omega arith))
 
-pub taken-le : (kind a b c d : ℕ) {w : ℕ} → w ≡ per kind a b c d → a ≤ 8 → b ≤ 8 → c ≤ 8 → d ≤ 8 → w ≤ 8
-taken-le kind a b c d e ha hb hc hd = rw e (per-le 8 kind a b c d ha hb hc hd)
+pub bit-is : (p w after : ℕ) {place : ℕ} (b : List Bool) → place + 1 + after ≡ p + w → p ≤ place
+    → cut after 1 (runIn p w b) ≡ whole place 1 b
+bit-is p w after {place} b e l = bit-when p w after b (ltb (length b) (place + 1)) refl e l
+
+nothing-when : (t : Bool) {x : ℕ} → x ≡ 0 → 0 ≡ cond t 0 x
+nothing-when true e = refl
+nothing-when false e = sym e
+
+-- of no bits
+pub no-bits : (place : ℕ) (b : List Bool) → 0 ≡ whole place 0 b
+unfolding num
+no-bits place b = nothing-when (ltb (length b) (place + 0)) refl
+
+-- not all there
+pub not-there : (place w : ℕ) (b : List Bool) → length b < place + w → whole place w b ≡ 0
+not-there place w b h = rw (lt-ltb (length b) (place + w) h) refl
+
+-- ---- what hangs on storage
 
 pub forward-le-of : {w : ℕ} (forward : ℕ) → w ≡ forwardWidth forward → w ≤ 48
 forward-le-of forward e = rw e (forward-le forward)
 
-pub storage-le : (kind : ℕ) {v : ℕ} → v < 2 ^ per kind 1 1 0 0 → v ≤ 1
-storage-le kind {v} h = let s : v < 2 ^ 1 = fits-in 1 h (per-le 1 kind 1 1 0 0 (omega arith) (omega arith) (omega arith) (omega arith)) in omega arith
-
-pub length-small : (kind : ℕ) {v : ℕ} → v < 2 ^ per kind 11 11 11 0 → v ≤ 2047
-length-small kind {v} h = let s : v < 2 ^ 11 = fits-in 11 h (per-le 11 kind 11 11 11 0 (omega arith) (omega arith) (omega arith) (omega arith)) in omega arith
+pub stored-code : (place storage : ℕ) (b : List Bool) {x f w v a : ℕ} → (storage ≡ 0 → ⊥) → x ≡ runIn place 56 b → f ≡ cut 48 3 x
+    → w ≡ forwardWidth f → v ≡ cut 51 5 x → a ≡ cut (48 - w) w x
+    → record { validity = v; forward = f; address = a; typed = place + 8; next = place + 8 + w } ≡ storedAt place storage b
+unfolding storedAt
+stored-code place storage b h ex ef ew ev ea = rw (ne-eqb storage 0 h, ea, ev, ew, ef, ex) refl

@@ -1,4 +1,5 @@
 pub mod ElementLaws
+pub mod RunLaws
 pub mod ReadLaws
 pub mod BuildLaws
 pub mod MessageLaws

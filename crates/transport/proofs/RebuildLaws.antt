@@ -2,19 +2,19 @@
 -- again to the same bits. Assumes nothing.
 use mathlib.Core.Path.{_≡_, refl, sym, ap, ap₂, subst, _∙_}
 use mathlib.Core.Bool.{Bool, true, false, cond}
-use mathlib.Core.List.{List, [], _∷_, _++_, append-nil}
+use mathlib.Core.List.{List, [], _∷_, _++_, append-assoc, append-nil}
 use Prim.Native.Nat.{ℕ, _+_, _-_, _*_, _^_, _≤_, _<_}
 use native.Mathlib.Nat.{add-zero}
 use native.Mathlib.Omega.{arith}
 use lib.Dec.{eqb}
-use lib.ListN.{length, take, drop, set, length-take, length-drop}
-use lib.Seq.{take-add, take-all}
+use lib.ListN.{length, take, drop, set, getD, length-append, length-take, length-drop}
+use lib.Seq.{take-at, take-add, take-all, length-take-le}
 use borrow.Author.Tests.{eqb-true, eqb-false}
 use Rattle.bits.specs.Bits.{bitsOf, num}
-use Rattle.bits.specs.Layout.{Part, pack, total, partsWith, partsIn}
+use Rattle.bits.specs.Layout.{Part, part, pack, total, partsWith, partsIn, AllFit}
 use Rattle.bits.proofs.Numbers.{num-take-lt, fits-in}
 use Rattle.bits.proofs.Bytes.{length-bitsOf}
-use Rattle.bits.proofs.Packing.{pack-read, fit-read}
+use Rattle.bits.proofs.Packing.{length-pack, read-pack, pack-read, fit-read}
 use Rattle.store.specs.Store.{handed}
 use Rattle.fcs.specs.Annex.{fcsOf}
 use Rattle.transport.specs.Layouts.{ackOf, per, Shape, shape, layout, at}
@@ -26,9 +26,11 @@ use Rattle.transport.specs.Well.{stands, endAt, ReadsWell, transportAt, 
 use Rattle.transport.specs.Well.{Accounts, Exact, Buildable}
 use Rattle.transport.specs.declared.Message.{Message}
 use Rattle.transport.specs.declared.Transport.{Transport}
+use Rattle.transport.proofs.BuildLaws.{length-checked}
 use Rattle.transport.proofs.WellLaws.{by-kind, fixed-inside, kind-least, form-is}
 use Rattle.transport.proofs.WellLaws.{read-lent, reads-well, well-reads}
-use Rattle.transport.proofs.RangeLaws.{flag-le, none-in, storage-small, length-wide, range-built, range-out}
+use Rattle.transport.proofs.RangeLaws.{flag-le, none-in, parts-fit, storage-small, length-wide}
+use Rattle.transport.proofs.RangeLaws.{built-range, range-built, range-out}
 
 -- ---- every bit
 
@@ -289,6 +291,85 @@ module _ {carrier flag : ℕ} {b : List Bool} (w : ReadsWell carrier flag b) (f 
             ∙ ap (λ (y : List Bool). handed y out) (ap (builtBits carrier flag m) e ∙ built-again),
       )
 
+-- ---- and nothing else builds again
+
+-- the elements are the first bits of what is built
+built-front : (flag : ℕ) (ps : List Part) (u : List Bool) → take (total ps) (checked flag (pack ps ++ u)) ≡ pack ps
+built-front flag ps u = when (eqb flag 1)
+  where
+    when : (c : Bool) → take (total ps) (cond c ((pack ps ++ u) ++ fcsOf (pack ps ++ u)) (pack ps ++ u)) ≡ pack ps
+    when true =
+        rw (append-assoc (pack ps) u (fcsOf (pack ps ++ u)))
+        (take-at (pack ps) (u ++ fcsOf (pack ps ++ u)) (total ps) (length-pack ps))
+    when false = take-at (pack ps) u (total ps) (length-pack ps)
+
+module _ {carrier flag : ℕ} {b : List Bool} (w : ReadsWell carrier flag b) where
+  abbrev P : Shape
+  P = w .form
+
+  abbrev T : Transport
+  T = transportAt P b
+
+  abbrev M : Message
+  M = T .message
+
+  abbrev U : List Bool
+  U = userIn T b
+
+  module _ {bytes lent : ℕ} (g : Buildable carrier flag M (T .bits) bytes lent) (e : builtBits carrier flag M U ≡ b)
+    where
+      abbrev ps : List Part
+      ps = partsFor (P .ack) M (T .bits)
+
+      built-is : checked flag (pack ps ++ U) ≡ b
+      unfolding builtBits frameBits
+      built-is =
+          ap (λ (n : ℕ). checked flag (pack (partsFor (P .ack) M n) ++ U)) (sym (user-length w))
+          ∙ ap (λ (a : ℕ). checked flag (frameBits a M U)) (w .carried)
+          ∙ e
+
+      parts-back : partsIn 0 (layout P) b ≡ ps
+      parts-back =
+          let f = subst (λ (a : ℕ). AllFit (partsFor a M (T .bits))) (sym (w .carried)) (parts-fit g) in
+          read-pack 0 ps b f (ap (take (total ps)) (sym built-is) ∙ built-front flag ps U)
+
+      length-front : length (pack ps) ≡ at 20 P
+      length-front = length-pack ps ∙ omega arith
+
+      length-back : length b ≡ at 20 P + T .bits + 32 * flag
+      length-back =
+          ap length (sym built-is)
+          ∙ length-checked flag (pack ps ++ U) (g .flagged)
+          ∙ omega (arith, length-append (pack ps) U, length-front, user-length w)
+
+      end-is : endAt P b ≡ at 20 P + (T .bits + length (afterAt P b))
+      end-is =
+          let y = data-there w in
+          sym (length-take-le (endAt P b) b y)
+          ∙ ap length (well-accounts w .bits ∙ ap (λ (x : List Part). pack x ++ (U ++ afterAt P b)) parts-back)
+          ∙ length-append (pack ps) (U ++ afterAt P b)
+          ∙ omega (arith, length-append U (afterAt P b), length-front, user-length w)
+
+      pub only-exact : Exact flag P b
+      only-exact =
+          let l = length-back in
+          let n = end-is in
+          let y = w .there in
+          record {
+            reserved = ap (λ (x : List Part). getD x 12 (part 0 0) .value) parts-back;
+            ends = omega arith;
+            after = λ k.
+                let z = none-in (P .kind) (kind-least w) (w .most) (endAt P b - at 20 P) (omega arith) in
+                omega arith;
+            short = λ a.
+                let z : length (afterAt P b) ≡ 0 = omega arith in
+                let s : stands 6 P b ≡ lengthFor P (T .bits) =
+                length-stands w ∙ ap (λ (x : ℕ). lengthFor P (T .bits + x)) z ∙ ap (lengthFor P) (add-zero (T .bits)) in
+                let h : lengthFor P (T .bits) ≤ mostFor (P .ack) flag =
+                subst (λ (c : ℕ). lengthFor (shapeFor c M) (T .bits) ≤ mostFor c flag) (sym (w .carried)) (g .long) in
+                subst (λ (c : ℕ). stands 6 P b ≤ mostFor c flag) a (rw s h);
+          }
+
 -- ---- what was read
 
 module _ (carrier elements n : ℕ) (sdu : List ℕ) (good : readOf carrier elements n sdu .fault ≡ 0) where
@@ -347,3 +428,13 @@ module _ (carrier elements n : ℕ) (sdu : List ℕ) (good : readOf carrier elem
         → (sduOf carrier flag (R .message) (R .bits) (length user) (length out) ≡ record { fault = 0; bits = n })
         × (outOf carrier flag (R .message) (R .bits) user out ≡ handed B out)
     rebuilt user out = rw read-is (well-rebuilt well small exact user out length-read)
+
+  -- and nothing else does
+  pub rebuilt-only : (bytes room : ℕ) → sduOf carrier flag (R .message) (R .bits) bytes room .fault ≡ 0
+      → builtBits carrier flag (R .message) (userIn R B) ≡ B → Exact flag Q B
+  rebuilt-only bytes room f e =
+      let g =
+      subst (λ (r : Transport). Buildable carrier flag (r .message) (r .bits) bytes room) read-is
+      (built-range carrier flag (R .message) (R .bits) bytes room f) in
+      let h = subst (λ (r : Transport). builtBits carrier flag (r .message) (userIn r B) ≡ B) read-is e in
+      subst (λ (q : Shape). Exact flag q B) (sym (form-is well)) (only-exact well g h)

@@ -1,11 +1,11 @@
 -- The elements of a DM-SDU as they stand in a string of bits.
-use mathlib.Core.Path.{_≡_}
 use mathlib.Core.Bool.{Bool, cond}
-use mathlib.Core.List.{List}
-use Prim.Native.Nat.{ℕ, _+_, _*_, _^_, _<_, _≤_}
-use lib.Dec.{eqb, ltb}
+use mathlib.Core.List.{List, [], _∷_}
+use Prim.Native.Nat.{ℕ, _+_, _-_, _*_, _/_, _%_, _^_, min}
+use lib.Dec.{eqb, leb, ltb}
 use lib.ListN.{length, getD}
 use Rattle.bits.specs.Bits.{field}
+use Rattle.blocks.specs.Faults.{unless}
 use Rattle.transport.specs.Layouts.{per, forwardWidth, Shape, shape, layout, at, endOf}
 use Rattle.transport.specs.declared.elements.Front.{Front}
 use Rattle.transport.specs.declared.elements.Fixed.{Fixed}
@@ -60,74 +60,117 @@ shapeOf ack b = shape ack (addressedIn ack b) (kindIn ack b) (storageIn ack b) (
 abbrev pub endIn : Shape → List Bool → ℕ
 endIn q b = endOf q (elementIn 6 q b)
 
--- ---- The same, as they are taken one after another.
+-- ---- The same, as they are cut out of runs of bits.
 
--- r is the number of the w bits from bit `place` on.
-pub record Whole (place w : ℕ) (b : List Bool) (r : ℕ) : Type 0 where
-  pub is : r ≡ whole place w b
-  pub small : r < 2 ^ w
+-- The w bits of x that `after` bits follow.
+unfoldable pub cut : ℕ → ℕ → ℕ → ℕ
+cut after w x = x / 2 ^ after % 2 ^ w
 
--- The number of the w bits from bit `place` on, and the bit after them; they are so many at most.
-pub record Stands (most place w : ℕ) (b : List Bool) (value next : ℕ) : Type 0 where
-  pub is : value ≡ whole place w b
-  pub small : value < 2 ^ w
-  pub after : next ≡ place + w
-  pub near : next ≤ place + most
+-- The w bits from bit `place` on as one number; one that is not there is 0.
+unfoldable pub runIn : ℕ → ℕ → List Bool → ℕ
+runIn place w b = let m = min (length b - place) w in field place m b * 2 ^ (w - m)
 
--- What stands before the message, and the short data type identifier.
-unfoldable pub frontOf : ℕ → List Bool → Front
-frontOf ack b =
-    let q = shape ack (addressedIn ack b) 0 0 0 in
+-- What stands before the short data type identifier, which begins at `next`: of x, the first 53 bits.
+unfoldable pub frontOf : ℕ → ℕ → Front
+frontOf ack x =
+    cond (eqb ack 1) (record { acknowledged = cut 49 4 x; addressed = 0; kind = 0; mni = 0; ssi = 0; next = 4 })
+    (cond (eqb (cut 52 1 x) 0) (record { acknowledged = 0; addressed = 0; kind = 0; mni = 0; ssi = 0; next = 1 })
+    (record { acknowledged = 0; addressed = 1; kind = cut 48 4 x; mni = cut 24 24 x; ssi = cut 0 24 x; next = 53 }))
+
+-- The kind of message: of x, the 47 bits from the short data type identifier on, which begins at `place`.
+unfoldable pub kindAt : ℕ → ℕ → ℕ → ℕ → ℕ
+kindAt n place x ack =
+    cond (eqb (cut 43 4 x) 3) (kindInData n (place + 27) (cut 32 11 x) (cut 24 8 x) (cut 20 4 x) ack)
+    (cond (eqb (cut 43 4 x) 4) (cond (ltb n (place + 10)) 0 (kindInStatus (cut 37 6 x)))
+    0)
+
+-- The elements that a message of this kind always has, of the same.
+unfoldable pub fixedAt : ℕ → ℕ → ℕ → Fixed
+fixedAt place kind x =
+    let length = cut 32 11 x in
+    let protocol = cut 24 8 x in
+    let storage = cut 16 1 x in
+    let higher = cut 8 8 x in
+    let lower = cut 0 8 x in
+    cond (eqb kind 1) (record {
+      length = length;
+      from = place + 15;
+      protocol = protocol;
+      request = cut 18 2 x;
+      short = cut 17 1 x;
+      required = 0;
+      storage = storage;
+      status = 0;
+      reference = higher;
+      next = place + 39;
+    })
+    (cond (eqb kind 2) (record {
+      length = length;
+      from = place + 15;
+      protocol = protocol;
+      request = 0;
+      short = 0;
+      required = cut 19 1 x;
+      storage = storage;
+      status = higher;
+      reference = lower;
+      next = place + 47;
+    })
+    (cond (eqb kind 3) (record {
+      length = length;
+      from = place + 15;
+      protocol = protocol;
+      request = 0;
+      short = 0;
+      required = 0;
+      storage = 0;
+      status = higher;
+      reference = lower;
+      next = place + 47;
+    })
+    (record {
+      length = 0;
+      from = place + 4;
+      protocol = 0;
+      request = 0;
+      short = 0;
+      required = 0;
+      storage = 0;
+      status = cut 35 2 x;
+      reference = cut 27 8 x;
+      next = place + 20;
+    })))
+
+-- The elements that hang on storage: of x, the 56 bits from bit `place` on.
+abbrev pub storedIn : ℕ → ℕ → ℕ → Stored
+storedIn place forward x =
+    let w = forwardWidth forward in
     record {
-      acknowledged = elementIn 0 q b;
-      addressed = q .addressed;
-      kind = elementIn 2 q b;
-      mni = elementIn 3 q b;
-      ssi = elementIn 4 q b;
-      sdti = elementIn 5 q b;
-      next = at 6 q;
+      validity = cut 51 5 x;
+      forward = forward;
+      address = cut (48 - w) w x;
+      typed = place + 8;
+      next = place + 8 + w;
     }
 
--- The kind of message, by the short data type identifier before bit `place`.
-unfoldable pub kindAt : ℕ → ℕ → ℕ → List Bool → ℕ
-kindAt place sdti ack b =
-    cond (eqb sdti 3)
-    (kindInData (length b) (place + 11 + 8 + 4) (whole place 11 b) (whole (place + 11) 8 b) (whole (place + 11 + 8) 4 b) ack)
-    (cond (eqb sdti 4) (kindInStatus (whole place 6 b)) 0)
-
--- The elements that a message of this kind always has, from bit `place` on.
-unfoldable pub fixedAt : ℕ → ℕ → List Bool → Fixed
-fixedAt place kind b =
-    let at7 = place + per kind 11 11 11 0 in
-    let at9 = at7 + per kind 8 8 8 0 + per kind 4 4 4 0 in
-    let at10 = at9 + per kind 2 0 0 0 in
-    let at11 = at10 + per kind 1 0 0 0 in
-    let at13 = at11 + per kind 0 1 0 0 + per kind 0 2 4 0 in
-    let at15 = at13 + per kind 1 1 0 0 + per kind 0 0 0 6 in
-    let at16 = at15 + per kind 0 8 8 2 in
-    record {
-      length = whole place (per kind 11 11 11 0) b;
-      from = at7;
-      protocol = whole at7 (per kind 8 8 8 0) b;
-      request = whole at9 (per kind 2 0 0 0) b;
-      short = whole at10 (per kind 1 0 0 0) b;
-      required = whole at11 (per kind 0 1 0 0) b;
-      storage = whole at13 (per kind 1 1 0 0) b;
-      status = whole at15 (per kind 0 8 8 2) b;
-      reference = whole at16 8 b;
-      next = at16 + 8;
-    }
-
--- The elements that hang on storage, from bit `place` on.
 unfoldable pub storedAt : ℕ → ℕ → List Bool → Stored
 storedAt place storage b =
-    let at18 = place + 5 * storage in
-    let at19 = at18 + 3 * storage in
-    let forward = whole at18 (3 * storage) b in
-    record {
-      validity = whole place (5 * storage) b;
-      forward = forward;
-      address = whole at19 (forwardWidth forward) b;
-      typed = at19;
-      next = at19 + forwardWidth forward;
-    }
+    cond (eqb storage 0) (record { validity = 0; forward = 0; address = 0; typed = place; next = place })
+    (storedIn place (cut 48 3 (runIn place 56 b)) (runIn place 56 b))
+
+-- The rules of `sduRules` on what stands before the short data type identifier, and those after the kind.
+abbrev pub frontRules : ℕ → ℕ → ℕ → ℕ → ℕ → List ℕ
+frontRules carrier acknowledged ack address addressed =
+    unless (leb 22 carrier) 21 ∷
+    unless (leb carrier 24) 21 ∷
+    unless (eqb acknowledged ack) 21 ∷
+    unless (eqb address addressed) 21 ∷
+    []
+
+abbrev pub endRules : Bool → Bool → ℕ → ℕ → ℕ → ℕ → List ℕ
+endRules forward check fixed end flag n =
+    unless forward 21 ∷
+    unless check 21 ∷
+    unless (leb fixed end) 22 ∷
+    unless (leb (end + 32 * flag) n) 22 ∷
+    []

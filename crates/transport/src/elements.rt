@@ -1,10 +1,10 @@
 // The elements of a DM-SDU: how wide each is, and what stands in the first n of the lent bits.
 ghost use mathlib.Core.Path.{_≡_};
-ghost use Prim.Native.Nat.{_+_, _*_, _^_, _≤_, _<_};
+ghost use Prim.Native.Nat.{_+_, _*_, _≤_, min};
 ghost use lib.ListN.{length, take};
 ghost use Rattle.bits.specs.Bits.{bitsOf};
 ghost use Rattle.transport.specs.Layouts.{ackOf, per, forwardWidth};
-ghost use Rattle.transport.specs.Elements.{Whole, Stands, addressedIn, frontOf, fixedAt, storedAt};
+ghost use Rattle.transport.specs.Elements.{cut, runIn, frontOf, fixedAt, storedAt};
 
 // 1 for DM-SDS ACK.
 pub(crate) fn ack_of(carrier: u8) -> usize
@@ -52,123 +52,94 @@ pub(crate) fn forward_width(forward: u8) -> usize
     if forward == 2 { 48 } else { 0 }
 }
 
-// The `w` bits from bit `at` on, if they are all among the first `n`; else 0.
-pub(crate) fn whole(s: &[u8], n: usize, at: usize, w: usize) -> u64
-    requires { ⌜ (n ≤ 8 * length (now s)) × (at ≤ 4096) × (w ≤ 56) ⌝ }
-    ensures { λ r. ⌜ Whole at w (take n (bitsOf (now (s .entry)))) r ⌝ }
+fn least(a: usize, b: usize) -> usize
+    ensures { λ r. ⌜ r ≡ min a b ⌝ }
 {
-    if n < at + w {
+    if a < b { a } else { b }
+}
+
+// The `w` bits from bit `at` on as one number; those that are not among the first `n` are 0.
+pub(crate) fn run(s: &[u8], n: usize, at: usize, w: usize) -> u64
+    requires { ⌜ (n ≤ 8 * length (now s)) × (at ≤ 256) × (w ≤ 56) ⌝ }
+    ensures { λ r. ⌜ r ≡ runIn at w (take n (bitsOf (now (s .entry)))) ⌝ }
+{
+    if n < at {
         return 0;
     }
-    bits::get(s, at, w)
+    let m = least(n - at, w);
+    bits::get(s, at, m) << (w - m)
+}
+
+// The `w` bits of a run that `after` bits follow.
+pub(crate) fn part(x: u64, after: usize, w: usize) -> u64
+    requires { ⌜ (after ≤ 63) × (w ≤ 56) ⌝ }
+    ensures { λ r. ⌜ r ≡ cut after w x ⌝ }
+{
+    (x >> after) & ((1 << w) - 1)
 }
 
 // The same, of eight bits at most.
-pub(crate) fn whole8(s: &[u8], n: usize, at: usize, w: usize) -> u8
-    requires { ⌜ (n ≤ 8 * length (now s)) × (at ≤ 4096) × (w ≤ 8) ⌝ }
-    ensures { λ r. ⌜ Whole at w (take n (bitsOf (now (s .entry)))) r ⌝ }
+pub(crate) fn part8(x: u64, after: usize, w: usize) -> u8
+    requires { ⌜ (after ≤ 63) × (w ≤ 8) ⌝ }
+    ensures { λ r. ⌜ r ≡ cut after w x ⌝ }
 {
-    whole(s, n, at, w) as u8
+    part(x, after, w) as u8
 }
 
 // The same, of 32 bits at most.
-pub(crate) fn whole32(s: &[u8], n: usize, at: usize, w: usize) -> u32
-    requires { ⌜ (n ≤ 8 * length (now s)) × (at ≤ 4096) × (w ≤ 32) ⌝ }
-    ensures { λ r. ⌜ Whole at w (take n (bitsOf (now (s .entry)))) r ⌝ }
+fn part32(x: u64, after: usize, w: usize) -> u32
+    requires { ⌜ (after ≤ 63) × (w ≤ 32) ⌝ }
+    ensures { λ r. ⌜ r ≡ cut after w x ⌝ }
 {
-    whole(s, n, at, w) as u32
+    part(x, after, w) as u32
 }
 
-// The additional addressing flag, 0 in a DM-SDS ACK.
-fn addressed_in(s: &[u8], n: usize, ack: usize) -> u8
-    requires { ⌜ (n ≤ 8 * length (now s)) × (ack ≤ 1) ⌝ }
-    ensures { λ r. ⌜ (r ≡ addressedIn ack (take n (bitsOf (now (s .entry))))) × (r ≤ 1) ⌝ }
-{
-    whole8(s, n, 4 * ack, 1 - ack)
-}
-
-// What stands before the message, and the short data type identifier; `next` is the bit after it.
+// What stands before the short data type identifier, which begins at `next`.
 pub struct Front {
     pub acknowledged: u8,
     pub addressed: u8,
     pub kind: u8,
     pub mni: u32,
     pub ssi: u32,
-    pub sdti: u8,
     pub next: usize,
 }
 
-pub(crate) fn front_of(s: &[u8], n: usize, ack: usize) -> Front
-    requires { ⌜ (n ≤ 8 * length (now s)) × (ack ≤ 1) ⌝ }
-    ensures { λ r. ⌜ (r ≡ frontOf ack (take n (bitsOf (now (s .entry))))) × (r .next ≤ 61) ⌝ }
+// Of x, the first 53 bits.
+pub(crate) fn front_of(x: u64, ack: usize) -> Front
+    ensures { λ r. ⌜ (r ≡ frontOf ack x) × (r .next ≤ 53) ⌝ }
 {
-    let acknowledged = whole8(s, n, 0, 4 * ack);
-    let addressed = addressed_in(s, n, ack);
-    let a = addressed as usize;
-    let at2 = 4 * ack + (1 - ack);
-    let kind = whole8(s, n, at2, 4 * a);
-    let at3 = at2 + 4 * a;
-    let mni = whole32(s, n, at3, 24 * a);
-    let at4 = at3 + 24 * a;
-    let ssi = whole32(s, n, at4, 24 * a);
-    let at5 = at4 + 24 * a;
-    let sdti = whole8(s, n, at5, 4);
+    if ack == 1 {
+        return Front {
+            acknowledged: part8(x, 49, 4),
+            addressed: 0,
+            kind: 0,
+            mni: 0,
+            ssi: 0,
+            next: 4,
+        };
+    }
+    if part8(x, 52, 1) == 0 {
+        return Front {
+            acknowledged: 0,
+            addressed: 0,
+            kind: 0,
+            mni: 0,
+            ssi: 0,
+            next: 1,
+        };
+    }
     Front {
-        acknowledged,
-        addressed,
-        kind,
-        mni,
-        ssi,
-        sdti,
-        next: at5 + 4,
+        acknowledged: 0,
+        addressed: 1,
+        kind: part8(x, 48, 4),
+        mni: part32(x, 24, 24),
+        ssi: part32(x, 0, 24),
+        next: 53,
     }
 }
 
-// An element of at most eight bits whose width hangs on the kind of message, and the bit after it.
-struct Element {
-    value: u8,
-    next: usize,
-}
-
-fn taken(
-    s: &[u8],
-    n: usize,
-    at: usize,
-    kind: u8,
-    transfer: usize,
-    report: usize,
-    ack: usize,
-    short: usize,
-) -> Element
-    requires { ⌜ (n ≤ 8 * length (now s)) × (at ≤ 256) × (transfer ≤ 8) × (report ≤ 8) × (ack ≤ 8) × (short ≤ 8) ⌝ }
-    ensures { λ r. ⌜ Stands 8 at (per kind transfer report ack short) (take n (bitsOf (now (s .entry)))) (r .value) (r .next) ⌝ }
-{
-    let w = per(kind, transfer, report, ack, short);
-    Element {
-        value: whole8(s, n, at, w),
-        next: at + w,
-    }
-}
-
-// The length indicator, and the bit after it.
-struct Length {
-    value: usize,
-    next: usize,
-}
-
-fn length_at(s: &[u8], n: usize, at: usize, kind: u8) -> Length
-    requires { ⌜ (n ≤ 8 * length (now s)) × (at ≤ 64) ⌝ }
-    ensures { λ r. ⌜ Stands 11 at (per kind 11 11 11 0) (take n (bitsOf (now (s .entry)))) (r .value) (r .next) ⌝ }
-{
-    let w = per(kind, 11, 11, 11, 0);
-    Length {
-        value: whole(s, n, at, w) as usize,
-        next: at + w,
-    }
-}
-
-// The elements that a message of this kind always has, from bit `at` on; `from` is where user defined data 4 begins,
-// `next` the bit after the message reference.
+// The elements that a message of this kind always has; `from` is where user defined data 4 or the status begins, `next`
+// the bit after the message reference.
 pub struct Fixed {
     pub length: usize,
     pub from: usize,
@@ -182,33 +153,84 @@ pub struct Fixed {
     pub next: usize,
 }
 
-pub(crate) fn fixed_at(s: &[u8], n: usize, at: usize, kind: u8) -> Fixed
-    requires { ⌜ (n ≤ 8 * length (now s)) × (at ≤ 64) ⌝ }
-    ensures { λ r. ⌜ (r ≡ fixedAt at kind (take n (bitsOf (now (s .entry)))))
-        × (r .storage ≤ 1) × (r .length ≤ 2047) × (r .from ≤ at + 11) × (r .next ≤ at + 91) ⌝ }
+// The length indicator.
+pub(crate) fn length_in(x: u64) -> usize
+    ensures { λ r. ⌜ (r ≡ cut 32 11 x) × (r ≤ 2047) ⌝ }
 {
-    let length = length_at(s, n, at, kind);
-    let protocol = taken(s, n, length.next, kind, 8, 8, 8, 0);
-    let message = taken(s, n, protocol.next, kind, 4, 4, 4, 0);
-    let request = taken(s, n, message.next, kind, 2, 0, 0, 0);
-    let short = taken(s, n, request.next, kind, 1, 0, 0, 0);
-    let required = taken(s, n, short.next, kind, 0, 1, 0, 0);
-    let reserved = taken(s, n, required.next, kind, 0, 2, 4, 0);
-    let storage = taken(s, n, reserved.next, kind, 1, 1, 0, 0);
-    let beginning = taken(s, n, storage.next, kind, 0, 0, 0, 6);
-    let status = taken(s, n, beginning.next, kind, 0, 8, 8, 2);
-    let reference = whole8(s, n, status.next, 8);
+    part(x, 32, 11) as usize
+}
+
+// The storage flag.
+fn storage_in(x: u64) -> u8
+    ensures { λ r. ⌜ (r ≡ cut 16 1 x) × (r ≤ 1) ⌝ }
+{
+    part8(x, 16, 1)
+}
+
+// Of x, the 47 bits from the short data type identifier on, which begins at bit `at`.
+pub(crate) fn fixed_at(at: usize, kind: u8, x: u64) -> Fixed
+    requires { ⌜ at ≤ 53 ⌝ }
+    ensures { λ r. ⌜ (r ≡ fixedAt at kind x)
+        × (r .storage ≤ 1) × (r .length ≤ 2047) × (r .from ≤ at + 15) × (r .next ≤ at + 47) ⌝ }
+{
+    let length = length_in(x);
+    let protocol = part8(x, 24, 8);
+    let storage = storage_in(x);
+    let higher = part8(x, 8, 8);
+    let lower = part8(x, 0, 8);
+    if kind == 1 {
+        return Fixed {
+            length,
+            from: at + 15,
+            protocol,
+            request: part8(x, 18, 2),
+            short: part8(x, 17, 1),
+            required: 0,
+            storage,
+            status: 0,
+            reference: higher,
+            next: at + 39,
+        };
+    }
+    if kind == 2 {
+        return Fixed {
+            length,
+            from: at + 15,
+            protocol,
+            request: 0,
+            short: 0,
+            required: part8(x, 19, 1),
+            storage,
+            status: higher,
+            reference: lower,
+            next: at + 47,
+        };
+    }
+    if kind == 3 {
+        return Fixed {
+            length,
+            from: at + 15,
+            protocol,
+            request: 0,
+            short: 0,
+            required: 0,
+            storage: 0,
+            status: higher,
+            reference: lower,
+            next: at + 47,
+        };
+    }
     Fixed {
-        length: length.value,
-        from: length.next,
-        protocol: protocol.value,
-        request: request.value,
-        short: short.value,
-        required: required.value,
-        storage: storage.value,
-        status: status.value,
-        reference,
-        next: status.next + 8,
+        length: 0,
+        from: at + 4,
+        protocol: 0,
+        request: 0,
+        short: 0,
+        required: 0,
+        storage: 0,
+        status: part8(x, 35, 2),
+        reference: part8(x, 27, 8),
+        next: at + 20,
     }
 }
 
@@ -222,20 +244,26 @@ pub struct Stored {
 }
 
 pub(crate) fn stored_at(s: &[u8], n: usize, at: usize, storage: u8) -> Stored
-    requires { ⌜ (n ≤ 8 * length (now s)) × (at ≤ 256) × (storage ≤ 1) ⌝ }
+    requires { ⌜ (n ≤ 8 * length (now s)) × (at ≤ 256) ⌝ }
     ensures { λ r. ⌜ (r ≡ storedAt at storage (take n (bitsOf (now (s .entry))))) × (r .next ≤ at + 56) ⌝ }
 {
-    let t = storage as usize;
-    let validity = whole8(s, n, at, 5 * t);
-    let forward = whole8(s, n, at + 5 * t, 3 * t);
-    let typed = at + 5 * t + 3 * t;
+    if storage == 0 {
+        return Stored {
+            validity: 0,
+            forward: 0,
+            address: 0,
+            typed: at,
+            next: at,
+        };
+    }
+    let x = run(s, n, at, 56);
+    let forward = part8(x, 48, 3);
     let w = forward_width(forward);
-    let address = whole(s, n, typed, w);
     Stored {
-        validity,
+        validity: part8(x, 51, 5),
         forward,
-        address,
-        typed,
-        next: typed + w,
+        address: part(x, 48 - w, w),
+        typed: at + 8,
+        next: at + 8 + w,
     }
 }

@@ -4,17 +4,18 @@ ghost use Prim.Native.Nat.{_*_, _≤_};
 ghost use lib.ListN.{length, take};
 ghost use Rattle.bits.specs.Bits.{bitsOf};
 ghost use Rattle.blocks.specs.Faults.{firstOf};
-ghost use Rattle.transport.specs.Elements.{kindInData, kindAt};
-ghost use Rattle.transport.specs.Reading.{direct, forwardHolds, fcsHolds, sduRules, readBits};
+ghost use Rattle.transport.specs.Elements.{kindInData, kindAt, frontRules, endRules};
+ghost use Rattle.transport.specs.Reading.{direct, forwardHolds, fcsHolds, readBits};
 use crate::Message;
 use crate::Transport;
 use crate::elements::ack_of;
 use crate::elements::fixed_at;
 use crate::elements::front_of;
+use crate::elements::length_in;
+use crate::elements::part8;
 use crate::elements::per;
+use crate::elements::run;
 use crate::elements::stored_at;
-use crate::elements::whole;
-use crate::elements::whole8;
 use crate::refused;
 
 // The kind of message that user defined data 4 tells, 0 where it tells none.
@@ -39,21 +40,29 @@ fn kind_in_data(n: usize, end: usize, length: usize, protocol: u8, message: u8, 
     message + 1
 }
 
-// The kind of message, by the short data type identifier before bit `at`.
-fn kind_at(s: &[u8], n: usize, at: usize, sdti: u8, ack: usize) -> u8
-    requires { ⌜ (n ≤ 8 * length (now s)) × (at ≤ 64) ⌝ }
-    ensures { λ r. ⌜ r ≡ kindAt at sdti ack (take n (bitsOf (now (s .entry)))) ⌝ }
+// The kind of message, by the 47 bits x from the short data type identifier on, which stands at bit `at`.
+fn kind_at(n: usize, at: usize, x: u64, ack: usize) -> u8
+    requires { ⌜ at ≤ 53 ⌝ }
+    ensures { λ r. ⌜ r ≡ kindAt n at x ack ⌝ }
 {
+    let sdti = part8(x, 43, 4);
     if sdti == 3 {
-        let length = whole(s, n, at, 11) as usize;
-        let protocol = whole8(s, n, at + 11, 8);
-        let message = whole8(s, n, at + 11 + 8, 4);
-        return kind_in_data(n, at + 11 + 8 + 4, length, protocol, message, ack);
+        return kind_in_data(
+            n,
+            at + 27,
+            length_in(x),
+            part8(x, 24, 8),
+            part8(x, 20, 4),
+            ack,
+        );
     }
     if sdti != 4 {
         return 0;
     }
-    if whole8(s, n, at, 6) == 31 { 4 } else { 0 }
+    if n < at + 10 {
+        return 0;
+    }
+    if part8(x, 37, 6) == 31 { 4 } else { 0 }
 }
 
 // Whether a forward address type is one of direct mode's.
@@ -99,23 +108,9 @@ fn fcs_holds(s: &[u8], n: usize, flag: usize, end: usize) -> bool
     bits::get32(s, end, 32) == fcs::fcs_of(s, end)
 }
 
-// The first of the faults 21 and 22 that these numbers give, 0 where they give none.
-fn sdu_rules(
-    carrier: u8,
-    acknowledged: u8,
-    ack: usize,
-    address: u8,
-    addressed: u8,
-    kind: u8,
-    forward: bool,
-    check: bool,
-    fixed: usize,
-    end: usize,
-    flag: usize,
-    n: usize,
-) -> u8
-    requires { ⌜ (end ≤ 4096) × (flag ≤ 1) ⌝ }
-    ensures { λ r. ⌜ r ≡ firstOf (sduRules carrier acknowledged ack address addressed kind forward check fixed end flag n) ⌝ }
+// The first of the faults that what stands before the short data type identifier gives, 0 where it gives none.
+fn front_rules(carrier: u8, acknowledged: u8, ack: usize, address: u8, addressed: u8) -> u8
+    ensures { λ r. ⌜ r ≡ firstOf (frontRules carrier acknowledged ack address addressed) ⌝ }
 {
     if carrier < 22 {
         return 21;
@@ -126,12 +121,14 @@ fn sdu_rules(
     if (acknowledged as usize) != ack {
         return 21;
     }
-    if address != addressed {
-        return 21;
-    }
-    if kind < 1 {
-        return 21;
-    }
+    if address != addressed { 21 } else { 0 }
+}
+
+// The same of what stands after the kind.
+fn end_rules(forward: bool, check: bool, fixed: usize, end: usize, flag: usize, n: usize) -> u8
+    requires { ⌜ (end ≤ 4096) × (flag ≤ 1) ⌝ }
+    ensures { λ r. ⌜ r ≡ firstOf (endRules forward check fixed end flag n) ⌝ }
+{
     if !forward {
         return 21;
     }
@@ -153,28 +150,29 @@ pub(crate) fn read_bits(carrier: u8, flag: usize, n: usize, s: &[u8]) -> Transpo
     ensures { λ r. ⌜ r ≡ readBits carrier flag (take n (bitsOf (now (s .entry)))) ⌝ }
 {
     let ack = ack_of(carrier);
-    let front = front_of(s, n, ack);
-    let kind = kind_at(s, n, front.next, front.sdti, ack);
-    let fixed = fixed_at(s, n, front.next, kind);
-    let stored = stored_at(s, n, fixed.next, fixed.storage);
-    let length = fixed.length;
-    let end = fixed.from + per(kind, length, length, length, 16);
-    let forward = forward_holds(fixed.storage, stored.forward, stored.typed, end, n);
-    let check = fcs_holds(s, n, flag, end);
-    let fault = sdu_rules(
+    let front = front_of(run(s, n, 0, 53), ack);
+    let fault = front_rules(
         carrier,
         front.acknowledged,
         ack,
         front.kind,
         front.addressed,
-        kind,
-        forward,
-        check,
-        stored.next,
-        end,
-        flag,
-        n,
     );
+    if fault != 0 {
+        return refused(fault);
+    }
+    let x = run(s, n, front.next, 47);
+    let kind = kind_at(n, front.next, x, ack);
+    if kind == 0 {
+        return refused(21);
+    }
+    let fixed = fixed_at(front.next, kind, x);
+    let stored = stored_at(s, n, fixed.next, fixed.storage);
+    let length = fixed.length;
+    let end = fixed.from + per(kind, length, length, length, 16);
+    let forward = forward_holds(fixed.storage, stored.forward, stored.typed, end, n);
+    let check = fcs_holds(s, n, flag, end);
+    let fault = end_rules(forward, check, stored.next, end, flag, n);
     if fault != 0 {
         return refused(fault);
     }

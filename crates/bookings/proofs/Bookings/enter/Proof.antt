@@ -1,7 +1,8 @@
 use mathlib.Core.Path.{_≡_, refl}
+use Prim.Native.Nat.{_+_, min}
 use native.Mathlib.Omega.{arith}
 use lib.ListN.{length}
-use Rattle.bookings.proofs.KeptLaws.{entered-by}
+use Rattle.bookings.proofs.KeptLaws.{entered-again, entered-new}
 use borrow.Author.Needs.{needs}
 use Rattle.bookings.proofs.Bookings.enter.Statement.{statement}
 use Rattle.bookings.proofs.Bookings.enter.Tie as tie
@@ -20,16 +21,32 @@ is-in-requires c κs =
     let n : length (c .before .before .args .self .pairs) ≡ 32 = search needs in
     omega (arith, c .before .before .pre)
 
-entered-requires : tie.Need-entered-requires
-entered-requires c κs = search needs
-
 returns : tie.Need-returns
-returns c =
-    entered-by _ _ _ _ 2 (c .before .before .is-in .ensures) (c .before .entered .ensures) (rw (c .if1 .taken) refl)
+returns c = entered-again _ _ _ (c .before .is-in .ensures) (c .if1 .taken)
+
+slice-aggregate-push : tie.Need-slice-aggregate-push
+slice-aggregate-push c = search needs
+
+push-requires : tie.Need-push-requires
+push-requires c κs = search needs
+
+add-t17 : tie.Need-add-t17
+add-t17 c = search needs
 
 returns-2 : tie.Need-returns-2
 returns-2 c =
-    entered-by _ _ _ _ 1 (c .before .before .is-in .ensures) (c .before .entered .ensures) (rw (c .if1 .left) refl)
+    let s = c .before in
+    let self = s .before .before .before .before .before .before .before .before .before .args .self in
+    let n : self .count + 1 ≡ min 32 (self .count + 1) = omega arith in
+    let p = s .before .before .before .push .ensures in
+    entered-new self _ _ (s .before .before .before .before .before .before .is-in .ensures) (s .before .before .before .before .before .if1 .left) n p
+
+returns-3 : tie.Need-returns-3
+returns-3 c =
+    let self = c .before .before .before .before .before .before .before .before .before .args .self in
+    let n : 32 ≡ min 32 (self .count + 1) = omega arith in
+    let p = c .before .before .before .push .ensures in
+    entered-new self _ _ (c .before .before .before .before .before .before .is-in .ensures) (c .before .before .before .before .before .if1 .left) n p
 
 pub enter-spec : {M : Type 1} → statement M
 enter-spec =
@@ -39,6 +56,9 @@ enter-spec =
     add-pair
     slice-aggregate-is-in
     is-in-requires
-    entered-requires
     returns
-    returns-2)
+    slice-aggregate-push
+    push-requires
+    add-t17
+    returns-2
+    returns-3)

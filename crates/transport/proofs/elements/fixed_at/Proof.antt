@@ -1,62 +1,103 @@
 use native.Mathlib.Omega.{arith}
-use Rattle.transport.proofs.ElementLaws.{fixed-read, storage-le, length-small}
+use Rattle.bits.proofs.Tests.{tests}
+use Rattle.transport.specs.Elements.{fixedAt}
 use borrow.Author.Needs.{needs}
 use Rattle.transport.proofs.elements.fixed_at.Statement.{statement}
 use Rattle.transport.proofs.elements.fixed_at.Tie as tie
 
-length-at-requires : tie.Need-length-at-requires
-length-at-requires c κs = search needs
+length-in-requires : tie.Need-length-in-requires
+length-in-requires c κs = search needs
 
-taken-requires : tie.Need-taken-requires
-taken-requires c κs = search needs
+part8-requires : tie.Need-part8-requires
+part8-requires c κs = search needs
 
-taken-requires-2 : tie.Need-taken-requires-2
-taken-requires-2 c κs = search needs
+storage-in-requires : tie.Need-storage-in-requires
+storage-in-requires c κs = search needs
 
-taken-requires-3 : tie.Need-taken-requires-3
-taken-requires-3 c κs = search needs
+part8-requires-2 : tie.Need-part8-requires-2
+part8-requires-2 c κs = search needs
 
-taken-requires-4 : tie.Need-taken-requires-4
-taken-requires-4 c κs = search needs
+part8-requires-3 : tie.Need-part8-requires-3
+part8-requires-3 c κs = search needs
 
-taken-requires-5 : tie.Need-taken-requires-5
-taken-requires-5 c κs = search needs
+add-t10 : tie.Need-add-t10
+add-t10 c = search needs
 
-taken-requires-6 : tie.Need-taken-requires-6
-taken-requires-6 c κs = search needs
+part8-requires-4 : tie.Need-part8-requires-4
+part8-requires-4 c κs = search needs
 
-taken-requires-7 : tie.Need-taken-requires-7
-taken-requires-7 c κs = omega (arith, c .taken6 .ensures .near, c .before .taken5 .ensures .near, c .before .before .taken4 .ensures .near, c .before .before .before .taken3 .ensures .near, c .before .before .before .before .taken2 .ensures .near, c .before .before .before .before .before .taken .ensures .near, c .before .before .before .before .before .before .length-at .ensures .near, c .before .before .before .before .before .before .before .before .pre)
+part8-requires-5 : tie.Need-part8-requires-5
+part8-requires-5 c κs = search needs
 
-taken-requires-8 : tie.Need-taken-requires-8
-taken-requires-8 c κs = omega (arith, c .taken7 .ensures .near, c .before .taken6 .ensures .near, c .before .before .taken5 .ensures .near, c .before .before .before .taken4 .ensures .near, c .before .before .before .before .taken3 .ensures .near, c .before .before .before .before .before .taken2 .ensures .near, c .before .before .before .before .before .before .taken .ensures .near, c .before .before .before .before .before .before .before .length-at .ensures .near, c .before .before .before .before .before .before .before .before .before .pre)
-
-taken-requires-9 : tie.Need-taken-requires-9
-taken-requires-9 c κs = omega (arith, c .taken8 .ensures .near, c .before .taken7 .ensures .near, c .before .before .taken6 .ensures .near, c .before .before .before .taken5 .ensures .near, c .before .before .before .before .taken4 .ensures .near, c .before .before .before .before .before .taken3 .ensures .near, c .before .before .before .before .before .before .taken2 .ensures .near, c .before .before .before .before .before .before .before .taken .ensures .near, c .before .before .before .before .before .before .before .before .length-at .ensures .near, c .before .before .before .before .before .before .before .before .before .before .pre)
-
-whole8-requires : tie.Need-whole8-requires
-whole8-requires c κs = omega (arith, c .taken9 .ensures .near, c .before .taken8 .ensures .near, c .before .before .taken7 .ensures .near, c .before .before .before .taken6 .ensures .near, c .before .before .before .before .taken5 .ensures .near, c .before .before .before .before .before .taken4 .ensures .near, c .before .before .before .before .before .before .taken3 .ensures .near, c .before .before .before .before .before .before .before .taken2 .ensures .near, c .before .before .before .before .before .before .before .before .taken .ensures .near, c .before .before .before .before .before .before .before .before .before .length-at .ensures .near, c .before .before .before .before .before .before .before .before .before .before .before .pre)
-
-add-t16 : tie.Need-add-t16
-add-t16 c = omega (arith, c .before .before .taken9 .ensures .near, c .before .before .before .taken8 .ensures .near, c .before .before .before .before .taken7 .ensures .near, c .before .before .before .before .before .taken6 .ensures .near, c .before .before .before .before .before .before .taken5 .ensures .near, c .before .before .before .before .before .before .before .taken4 .ensures .near, c .before .before .before .before .before .before .before .before .taken3 .ensures .near, c .before .before .before .before .before .before .before .before .before .taken2 .ensures .near, c .before .before .before .before .before .before .before .before .before .before .taken .ensures .near, c .before .before .before .before .before .before .before .before .before .before .before .length-at .ensures .near, c .before .before .before .before .before .before .before .before .before .before .before .before .before .pre)
+add-t13 : tie.Need-add-t13
+add-t13 c = search needs
 
 returns : tie.Need-returns
-returns c = (fixed-read (c .before .before .before .before .before .before .before .before .before .before .before .before .before .args .kind) (c .before .before .before .before .before .before .before .before .before .before .before .length-at .ensures) (c .before .before .before .before .before .before .before .before .before .before .taken .ensures) (c .before .before .before .before .before .before .before .before .before .taken2 .ensures) (c .before .before .before .before .before .before .before .before .taken3 .ensures) (c .before .before .before .before .before .before .before .taken4 .ensures) (c .before .before .before .before .before .before .taken5 .ensures) (c .before .before .before .before .before .taken6 .ensures) (c .before .before .before .before .taken7 .ensures) (c .before .before .before .taken8 .ensures) (c .before .before .taken9 .ensures) (c .before .whole8 .ensures), storage-le (c .before .before .before .before .before .before .before .before .before .before .before .before .before .args .kind) (c .before .before .before .before .taken7 .ensures .small), length-small (c .before .before .before .before .before .before .before .before .before .before .before .before .before .args .kind) (c .before .before .before .before .before .before .before .before .before .before .before .length-at .ensures .small), c .before .before .before .before .before .before .before .before .before .before .before .length-at .ensures .near, omega (arith, c .before .before .before .before .before .before .before .before .before .before .before .length-at .ensures .near, c .before .before .before .before .before .before .before .before .before .before .taken .ensures .near, c .before .before .before .before .before .before .before .before .before .taken2 .ensures .near, c .before .before .before .before .before .before .before .before .taken3 .ensures .near, c .before .before .before .before .before .before .before .taken4 .ensures .near, c .before .before .before .before .before .before .taken5 .ensures .near, c .before .before .before .before .before .taken6 .ensures .near, c .before .before .before .before .taken7 .ensures .near, c .before .before .before .taken8 .ensures .near, c .before .before .taken9 .ensures .near))
+unfolding fixedAt
+returns c = (search (tests, ← c .part85 .ensures, ← c .before .part84 .ensures, ← c .before .before .before .part83 .ensures, ← c .before .before .before .before .part82 .ensures, ← c .before .before .before .before .before .storage-in .ensures .0, ← c .before .before .before .before .before .before .part8 .ensures, ← c .before .before .before .before .before .before .before .length-in .ensures .0), c .before .before .before .before .before .storage-in .ensures .1, c .before .before .before .before .before .before .before .length-in .ensures .1, omega arith, omega arith)
+
+add-t14 : tie.Need-add-t14
+add-t14 c = search needs
+
+part8-requires-6 : tie.Need-part8-requires-6
+part8-requires-6 c κs = search needs
+
+add-t16 : tie.Need-add-t16
+add-t16 c = search needs
+
+returns-2 : tie.Need-returns-2
+unfolding fixedAt
+returns-2 c = (search (tests, ← c .part86 .ensures, ← c .before .before .before .part83 .ensures, ← c .before .before .before .before .part82 .ensures, ← c .before .before .before .before .before .storage-in .ensures .0, ← c .before .before .before .before .before .before .part8 .ensures, ← c .before .before .before .before .before .before .before .length-in .ensures .0), c .before .before .before .before .before .storage-in .ensures .1, c .before .before .before .before .before .before .before .length-in .ensures .1, omega arith, omega arith)
+
+add-t17 : tie.Need-add-t17
+add-t17 c = search needs
+
+add-t18 : tie.Need-add-t18
+add-t18 c = search needs
+
+returns-3 : tie.Need-returns-3
+unfolding fixedAt
+returns-3 c = (search (tests, ← c .before .before .before .part83 .ensures, ← c .before .before .before .before .part82 .ensures, ← c .before .before .before .before .before .storage-in .ensures .0, ← c .before .before .before .before .before .before .part8 .ensures, ← c .before .before .before .before .before .before .before .length-in .ensures .0), omega arith, c .before .before .before .before .before .before .before .length-in .ensures .1, omega arith, omega arith)
+
+add-t19 : tie.Need-add-t19
+add-t19 c = search needs
+
+part8-requires-7 : tie.Need-part8-requires-7
+part8-requires-7 c κs = search needs
+
+part8-requires-8 : tie.Need-part8-requires-8
+part8-requires-8 c κs = search needs
+
+add-t22 : tie.Need-add-t22
+add-t22 c = search needs
+
+returns-4 : tie.Need-returns-4
+unfolding fixedAt
+returns-4 c = (search (tests, ← c .part88 .ensures, ← c .before .part87 .ensures, ← c .before .before .before .before .before .part83 .ensures, ← c .before .before .before .before .before .before .part82 .ensures, ← c .before .before .before .before .before .before .before .storage-in .ensures .0, ← c .before .before .before .before .before .before .before .before .part8 .ensures, ← c .before .before .before .before .before .before .before .before .before .length-in .ensures .0), omega arith, omega arith, omega arith, omega arith)
 
 pub fixed-at-spec : {M : Type 1} → statement M
 fixed-at-spec =
     tie.close
     (tie.spec
-    length-at-requires
-    taken-requires
-    taken-requires-2
-    taken-requires-3
-    taken-requires-4
-    taken-requires-5
-    taken-requires-6
-    taken-requires-7
-    taken-requires-8
-    taken-requires-9
-    whole8-requires
+    length-in-requires
+    part8-requires
+    storage-in-requires
+    part8-requires-2
+    part8-requires-3
+    add-t10
+    part8-requires-4
+    part8-requires-5
+    add-t13
+    returns
+    add-t14
+    part8-requires-6
     add-t16
-    returns)
+    returns-2
+    add-t17
+    add-t18
+    returns-3
+    add-t19
+    part8-requires-7
+    part8-requires-8
+    add-t22
+    returns-4)

@@ -1,66 +1,59 @@
 use native.Mathlib.Omega.{arith}
-use Rattle.transport.proofs.ElementLaws.{forward-le-of, stored-read}
+use Rattle.bits.proofs.Tests.{tests}
+use Rattle.transport.specs.Elements.{storedAt}
+use Rattle.transport.proofs.ElementLaws.{forward-le-of, stored-code}
+use Rattle.bits.specs.Bits.{bitsOf}
+use lib.ListN.{take}
 use borrow.Author.Needs.{needs}
 use Rattle.transport.proofs.elements.stored_at.Statement.{statement}
 use Rattle.transport.proofs.elements.stored_at.Tie as tie
 
-mul-whole8 : tie.Need-mul-whole8
-mul-whole8 c = search needs
+returns : tie.Need-returns
+unfolding storedAt
+returns c = (search tests, omega arith)
 
-whole8-requires : tie.Need-whole8-requires
-whole8-requires c κs = search needs
+run-requires : tie.Need-run-requires
+run-requires c κs = search needs
 
-mul-whole8-2 : tie.Need-mul-whole8-2
-mul-whole8-2 c = search needs
-
-add-whole8 : tie.Need-add-whole8
-add-whole8 c = search needs
-
-mul-whole8-3 : tie.Need-mul-whole8-3
-mul-whole8-3 c = search needs
-
-whole8-requires-2 : tie.Need-whole8-requires-2
-whole8-requires-2 c κs = search needs
-
-mul-typed : tie.Need-mul-typed
-mul-typed c = search needs
-
-add-typed : tie.Need-add-typed
-add-typed c = search needs
-
-mul-typed-2 : tie.Need-mul-typed-2
-mul-typed-2 c = search needs
-
-add-typed-2 : tie.Need-add-typed-2
-add-typed-2 c = search needs
+part8-requires : tie.Need-part8-requires
+part8-requires c κs = search needs
 
 forward-width-requires : tie.Need-forward-width-requires
 forward-width-requires c κs = search needs
 
-whole-requires : tie.Need-whole-requires
-whole-requires c κs = let l = forward-le-of (c .before .whole82 .result) (c .forward-width .ensures) in omega arith
+part8-requires-2 : tie.Need-part8-requires-2
+part8-requires-2 c κs = search needs
 
-add-t11 : tie.Need-add-t11
-add-t11 c = let l = forward-le-of (c .before .before .whole82 .result) (c .before .forward-width .ensures) in omega arith
+sub-part : tie.Need-sub-part
+sub-part c = let l = forward-le-of (c .before .before .part8 .result) (c .before .forward-width .ensures) in omega arith
 
-returns : tie.Need-returns
-returns c = let l = forward-le-of (c .before .before .whole82 .result) (c .before .forward-width .ensures) in (stored-read (c .before .before .before .before .before .args .at) (c .before .before .before .before .before .args .storage) (c .before .before .before .whole8 .ensures) (c .before .before .whole82 .ensures) (c .before .forward-width .ensures) (c .whole .ensures), omega arith)
+part-requires : tie.Need-part-requires
+part-requires c κs = let l = forward-le-of (c .before .before .part8 .result) (c .before .forward-width .ensures) in omega arith
+
+add-t12 : tie.Need-add-t12
+add-t12 c = search needs
+
+add-t13 : tie.Need-add-t13
+add-t13 c = search needs
+
+add-t14 : tie.Need-add-t14
+add-t14 c = let l = forward-le-of (c .before .before .before .part8 .result) (c .before .before .forward-width .ensures) in omega arith
+
+returns-2 : tie.Need-returns-2
+returns-2 c = let a = c .before .before .before .before .before .before .before .args in let l = forward-le-of (c .before .before .before .part8 .result) (c .before .before .forward-width .ensures) in (stored-code (a .at) (a .storage) (take (a .n) (bitsOf (a .s .now))) (c .before .before .before .before .before .if1 .left) (c .before .before .before .before .run .ensures) (c .before .before .before .part8 .ensures) (c .before .before .forward-width .ensures) (c .before .part82 .ensures) (c .part .ensures), omega arith)
 
 pub stored-at-spec : {M : Type 1} → statement M
 stored-at-spec =
     tie.close
     (tie.spec
-    mul-whole8
-    whole8-requires
-    mul-whole8-2
-    add-whole8
-    mul-whole8-3
-    whole8-requires-2
-    mul-typed
-    add-typed
-    mul-typed-2
-    add-typed-2
+    returns
+    run-requires
+    part8-requires
     forward-width-requires
-    whole-requires
-    add-t11
-    returns)
+    part8-requires-2
+    sub-part
+    part-requires
+    add-t12
+    add-t13
+    add-t14
+    returns-2)

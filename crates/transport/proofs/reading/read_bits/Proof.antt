@@ -1,19 +1,40 @@
-use mathlib.Core.Path.{sym, ap, _∙_}
+use borrow.Author.Needs.{needs}
+use mathlib.Core.Path.{refl, sym, ap, _∙_}
 use Prim.Native.Nat.{ℕ, _+_}
 use native.Mathlib.Omega.{arith}
-use Rattle.transport.proofs.ReadLaws.{ack-le, end-le, read-refused, read-fits, read-found}
-use borrow.Author.Needs.{needs}
+use Rattle.transport.proofs.ReadLaws.{end-le, end-fits, front-refused, kind-refused, last-refused, last-found}
 use Rattle.transport.proofs.reading.read_bits.Statement.{statement}
 use Rattle.transport.proofs.reading.read_bits.Tie as tie
 
 ack-of-requires : tie.Need-ack-of-requires
 ack-of-requires c κs = search needs
 
+run-requires : tie.Need-run-requires
+run-requires c κs = search needs
+
 front-of-requires : tie.Need-front-of-requires
-front-of-requires c κs = let l = ack-le (c .before .before .args .carrier) (c .ack-of .ensures) in omega arith
+front-of-requires c κs = search needs
+
+front-rules-requires : tie.Need-front-rules-requires
+front-rules-requires c κs = search needs
+
+refused-requires : tie.Need-refused-requires
+refused-requires c κs = search needs
+
+returns : tie.Need-returns
+returns c = c .refused .ensures ∙ front-refused (c .before .before .before .before .before .before .before .args .carrier) (c .before .before .before .before .before .before .before .args .flag) (c .before .before .before .before .before .before .before .args .n) (c .before .before .before .before .before .before .before .args .s .now) (c .before .before .before .before .before .before .before .pre .0) (c .before .before .before .before .before .ack-of .ensures) (c .before .before .before .before .run .ensures) (c .before .before .before .front-of .ensures .0) refl refl (c .before .before .front-rules .ensures) (c .before .if1 .taken)
+
+run-requires-2 : tie.Need-run-requires-2
+run-requires-2 c κs = search needs
 
 kind-at-requires : tie.Need-kind-at-requires
 kind-at-requires c κs = search needs
+
+refused-requires-2 : tie.Need-refused-requires-2
+refused-requires-2 c κs = search needs
+
+returns-2 : tie.Need-returns-2
+returns-2 c = c .refused2 .ensures ∙ kind-refused (c .before .before .before .before .before .before .before .before .before .before .args .carrier) (c .before .before .before .before .before .before .before .before .before .before .args .flag) (c .before .before .before .before .before .before .before .before .before .before .args .n) (c .before .before .before .before .before .before .before .before .before .before .args .s .now) (c .before .before .before .before .before .before .before .before .before .before .pre .0) (c .before .before .before .before .before .before .before .before .ack-of .ensures) (c .before .before .before .before .before .before .before .run .ensures) (c .before .before .before .before .before .before .front-of .ensures .0) (c .before .before .before .run2 .ensures) (c .before .before .kind-at .ensures) (sym (c .before .before .before .before .before .front-rules .ensures) ∙ (c .before .before .before .before .if1 .left)) (c .before .if2 .taken)
 
 fixed-at-requires : tie.Need-fixed-at-requires
 fixed-at-requires c κs = search needs
@@ -25,25 +46,25 @@ per-requires : tie.Need-per-requires
 per-requires c κs = search needs
 
 add-end : tie.Need-add-end
-add-end c = let l = end-le (c .before .before .before .before .kind-at .result) (c .before .before .before .fixed-at .result .length) (c .before .per .ensures) (c .before .before .before .fixed-at .ensures .2) in omega (arith, c .before .before .before .fixed-at .ensures .3, c .before .before .before .before .before .front-of .ensures .1, c .before .before .before .before .before .before .before .before .pre)
+add-end c = let l = end-le (c .before .before .before .before .before .kind-at .result) (c .before .before .before .fixed-at .result .length) (c .before .per .ensures) (c .before .before .before .fixed-at .ensures .2) in omega (arith, (c .before .before .before .fixed-at .ensures .3), (c .before .before .before .before .before .before .before .before .before .front-of .ensures .1), c .before .before .before .before .before .before .before .before .before .before .before .before .before .pre)
 
 forward-holds-requires : tie.Need-forward-holds-requires
 forward-holds-requires c κs = search needs
 
 fcs-holds-requires : tie.Need-fcs-holds-requires
-fcs-holds-requires c κs = let l = end-le (c .before .before .before .before .before .kind-at .result) (c .before .before .before .before .fixed-at .result .length) (c .before .before .per .ensures) (c .before .before .before .before .fixed-at .ensures .2) in omega (arith, c .before .before .before .before .fixed-at .ensures .3, c .before .before .before .before .before .before .front-of .ensures .1, c .before .before .before .before .before .before .before .before .before .pre)
+fcs-holds-requires c κs = let l = end-le (c .before .before .before .before .before .before .kind-at .result) (c .before .before .before .before .fixed-at .result .length) (c .before .before .per .ensures) (c .before .before .before .before .fixed-at .ensures .2) in omega (arith, (c .before .before .before .before .fixed-at .ensures .3), (c .before .before .before .before .before .before .before .before .before .before .front-of .ensures .1), c .before .before .before .before .before .before .before .before .before .before .before .before .before .before .pre)
 
-sdu-rules-requires : tie.Need-sdu-rules-requires
-sdu-rules-requires c κs = let l = end-le (c .before .before .before .before .before .before .kind-at .result) (c .before .before .before .before .before .fixed-at .result .length) (c .before .before .before .per .ensures) (c .before .before .before .before .before .fixed-at .ensures .2) in omega (arith, c .before .before .before .before .before .fixed-at .ensures .3, c .before .before .before .before .before .before .before .front-of .ensures .1, c .before .before .before .before .before .before .before .before .before .before .pre)
+end-rules-requires : tie.Need-end-rules-requires
+end-rules-requires c κs = let l = end-le (c .before .before .before .before .before .before .before .kind-at .result) (c .before .before .before .before .before .fixed-at .result .length) (c .before .before .before .per .ensures) (c .before .before .before .before .before .fixed-at .ensures .2) in omega (arith, (c .before .before .before .before .before .fixed-at .ensures .3), (c .before .before .before .before .before .before .before .before .before .before .before .front-of .ensures .1), c .before .before .before .before .before .before .before .before .before .before .before .before .before .before .before .pre)
 
-refused-requires : tie.Need-refused-requires
-refused-requires c κs = search needs
+refused-requires-3 : tie.Need-refused-requires-3
+refused-requires-3 c κs = search needs
 
-returns : tie.Need-returns
-returns c = c .refused .ensures ∙ read-refused (c .before .before .before .before .before .before .before .before .before .before .before .before .before .args .carrier) (c .before .before .before .before .before .before .before .before .before .before .before .before .before .args .flag) (c .before .before .before .before .before .before .before .before .before .before .before .before .before .args .n) (c .before .before .before .before .before .before .before .before .before .before .before .before .before .args .s .now) (c .before .before .before .before .before .before .before .before .before .before .before .before .before .pre .0) (c .before .before .before .before .before .before .before .before .before .before .before .ack-of .ensures) (c .before .before .before .before .before .before .before .before .before .before .front-of .ensures .0) (c .before .before .before .before .before .before .before .before .before .kind-at .ensures) (c .before .before .before .before .before .before .before .before .fixed-at .ensures .0) (c .before .before .before .before .before .before .before .stored-at .ensures .0) (ap (λ (w : ℕ). c .before .before .before .before .before .before .before .before .fixed-at .result .from + w) (c .before .before .before .before .before .before .per .ensures)) (c .before .before .before .before .forward-holds .ensures) (c .before .before .before .fcs-holds .ensures) (c .before .before .sdu-rules .ensures) (c .before .if1 .taken)
+returns-3 : tie.Need-returns-3
+returns-3 c = c .refused3 .ensures ∙ last-refused (c .before .before .before .before .before .before .before .before .before .before .before .before .before .before .before .before .before .before .args .carrier) (c .before .before .before .before .before .before .before .before .before .before .before .before .before .before .before .before .before .before .args .flag) (c .before .before .before .before .before .before .before .before .before .before .before .before .before .before .before .before .before .before .args .n) (c .before .before .before .before .before .before .before .before .before .before .before .before .before .before .before .before .before .before .args .s .now) (c .before .before .before .before .before .before .before .before .before .before .before .before .before .before .before .before .before .before .pre .0) (c .before .before .before .before .before .before .before .before .before .before .before .before .before .before .before .before .ack-of .ensures) (c .before .before .before .before .before .before .before .before .before .before .before .before .before .before .before .run .ensures) (c .before .before .before .before .before .before .before .before .before .before .before .before .before .before .front-of .ensures .0) (c .before .before .before .before .before .before .before .before .before .before .before .run2 .ensures) (c .before .before .before .before .before .before .before .before .before .before .kind-at .ensures) (c .before .before .before .before .before .before .before .before .fixed-at .ensures .0) (c .before .before .before .before .before .before .before .stored-at .ensures .0) (ap (λ (w : ℕ). c .before .before .before .before .before .before .before .before .fixed-at .result .from + w) (c .before .before .before .before .before .before .per .ensures)) (sym (c .before .before .before .before .before .before .before .before .before .before .before .before .before .front-rules .ensures) ∙ (c .before .before .before .before .before .before .before .before .before .before .before .before .if1 .left)) (c .before .before .before .before .before .before .before .before .before .if2 .left) (c .before .before .before .before .forward-holds .ensures) (c .before .before .before .fcs-holds .ensures) (c .before .before .end-rules .ensures) (c .before .if3 .taken)
 
 sub-rest : tie.Need-sub-rest
-sub-rest c = read-fits (c .before .before .before .before .before .before .before .before .before .before .before .before .args .carrier) (c .before .before .before .before .before .before .before .before .before .before .before .before .args .flag) (c .before .before .before .before .before .before .before .before .before .before .before .before .args .n) (c .before .before .before .before .before .before .before .before .before .before .before .before .args .s .now) (c .before .before .before .before .before .before .before .before .before .before .before .before .pre .0) (c .before .before .before .before .before .before .before .before .before .before .ack-of .ensures) (c .before .before .before .before .before .before .before .before .before .front-of .ensures .0) (c .before .before .before .before .before .before .before .before .kind-at .ensures) (c .before .before .before .before .before .before .before .fixed-at .ensures .0) (c .before .before .before .before .before .before .stored-at .ensures .0) (ap (λ (w : ℕ). c .before .before .before .before .before .before .before .fixed-at .result .from + w) (c .before .before .before .before .before .per .ensures)) (c .before .before .before .forward-holds .ensures) (c .before .before .fcs-holds .ensures) (c .before .sdu-rules .ensures) (c .if1 .left)
+sub-rest c = end-fits (c .before .before .before .forward-holds .result) (c .before .before .fcs-holds .result) (c .before .before .before .before .before .before .stored-at .result .next) _ _ _ (c .before .end-rules .ensures) (c .if3 .left)
 
 per-requires-2 : tie.Need-per-requires-2
 per-requires-2 c κs = search needs
@@ -51,26 +72,33 @@ per-requires-2 c κs = search needs
 per-requires-3 : tie.Need-per-requires-3
 per-requires-3 c κs = search needs
 
-returns-2 : tie.Need-returns-2
-returns-2 c = rw (c .before .per2 .ensures, c .per3 .ensures) (read-found (c .before .before .before .before .before .before .before .before .before .before .before .before .before .before .args .carrier) (c .before .before .before .before .before .before .before .before .before .before .before .before .before .before .args .flag) (c .before .before .before .before .before .before .before .before .before .before .before .before .before .before .args .n) (c .before .before .before .before .before .before .before .before .before .before .before .before .before .before .args .s .now) (c .before .before .before .before .before .before .before .before .before .before .before .before .before .before .pre .0) (c .before .before .before .before .before .before .before .before .before .before .before .before .ack-of .ensures) (c .before .before .before .before .before .before .before .before .before .before .before .front-of .ensures .0) (c .before .before .before .before .before .before .before .before .before .before .kind-at .ensures) (c .before .before .before .before .before .before .before .before .before .fixed-at .ensures .0) (c .before .before .before .before .before .before .before .before .stored-at .ensures .0) (ap (λ (w : ℕ). c .before .before .before .before .before .before .before .before .before .fixed-at .result .from + w) (c .before .before .before .before .before .before .before .per .ensures)) (c .before .before .before .before .before .forward-holds .ensures) (c .before .before .before .before .fcs-holds .ensures) (c .before .before .before .sdu-rules .ensures) (c .before .before .if1 .left))
+returns-4 : tie.Need-returns-4
+returns-4 c = rw (c .before .per2 .ensures, c .per3 .ensures) (last-found (c .before .before .before .before .before .before .before .before .before .before .before .before .before .before .before .before .before .before .before .args .carrier) (c .before .before .before .before .before .before .before .before .before .before .before .before .before .before .before .before .before .before .before .args .flag) (c .before .before .before .before .before .before .before .before .before .before .before .before .before .before .before .before .before .before .before .args .n) (c .before .before .before .before .before .before .before .before .before .before .before .before .before .before .before .before .before .before .before .args .s .now) (c .before .before .before .before .before .before .before .before .before .before .before .before .before .before .before .before .before .before .before .pre .0) (c .before .before .before .before .before .before .before .before .before .before .before .before .before .before .before .before .before .ack-of .ensures) (c .before .before .before .before .before .before .before .before .before .before .before .before .before .before .before .before .run .ensures) (c .before .before .before .before .before .before .before .before .before .before .before .before .before .before .before .front-of .ensures .0) (c .before .before .before .before .before .before .before .before .before .before .before .before .run2 .ensures) (c .before .before .before .before .before .before .before .before .before .before .before .kind-at .ensures) (c .before .before .before .before .before .before .before .before .before .fixed-at .ensures .0) (c .before .before .before .before .before .before .before .before .stored-at .ensures .0) (ap (λ (w : ℕ). c .before .before .before .before .before .before .before .before .before .fixed-at .result .from + w) (c .before .before .before .before .before .before .before .per .ensures)) (sym (c .before .before .before .before .before .before .before .before .before .before .before .before .before .before .front-rules .ensures) ∙ (c .before .before .before .before .before .before .before .before .before .before .before .before .before .if1 .left)) (c .before .before .before .before .before .before .before .before .before .before .if2 .left) (c .before .before .before .before .before .forward-holds .ensures) (c .before .before .before .before .fcs-holds .ensures) (c .before .before .before .end-rules .ensures) (c .before .before .if3 .left))
 
 pub read-bits-spec : {M : Type 1} → statement M
 read-bits-spec =
     tie.close
     (tie.spec
     ack-of-requires
+    run-requires
     front-of-requires
+    front-rules-requires
+    refused-requires
+    returns
+    run-requires-2
     kind-at-requires
+    refused-requires-2
+    returns-2
     fixed-at-requires
     stored-at-requires
     per-requires
     add-end
     forward-holds-requires
     fcs-holds-requires
-    sdu-rules-requires
-    refused-requires
-    returns
+    end-rules-requires
+    refused-requires-3
+    returns-3
     sub-rest
     per-requires-2
     per-requires-3
-    returns-2)
+    returns-4)
