@@ -235,18 +235,18 @@ def functions(file):
 
 
 def size_lines(folder, library):
-    def reached(calls, plain_calls=None):
+    def reached(calls, plain_calls, of):
         """What these calls reach: sections of the library's, and of (a)'s at -O2 and at -Os."""
         found = [sections(kept(folder, "library", ["pierstrand_" + name for name in calls], library))]
         for level in ("O2", "Os"):
-            plain = os.path.join(folder, "plain-%s.o" % level)
-            found.append(sections(kept(folder, "plain-" + level, ["dm_" + name for name in plain_calls or calls], plain)))
+            name = "%s-%s" % (of, level)
+            found.append(sections(kept(folder, name, ["dm_" + call for call in plain_calls], os.path.join(folder, name + ".o"))))
         return found
 
-    parts = [("the six of blocks and receiver", CALLS, PLAIN_CALLS), ("the four of SDS-TL", TRANSPORT_CALLS, None)]
-    parts += [("`%s`" % name, [name], None) for name in TRANSPORT_CALLS]
-    of_parts = [[name, *(sum(of) for of in reached(calls, plain))] for name, calls, plain in parts]
-    sizes = list(zip(["library", "(a) at -O2", "(a) at -Os"], reached(CALLS + TRANSPORT_CALLS, PLAIN_CALLS + TRANSPORT_CALLS)))
+    parts = [("the six of blocks and receiver", CALLS, PLAIN_CALLS), ("the four of SDS-TL", TRANSPORT_CALLS, TRANSPORT_CALLS)]
+    parts += [("`%s`" % name, [name], [name]) for name in TRANSPORT_CALLS]
+    of_parts = [[name, *(sum(of) for of in reached(calls, plain, "parts"))] for name, calls, plain in parts]
+    sizes = list(zip(["library", "(a) at -O2", "(a) at -Os"], reached(CALLS + TRANSPORT_CALLS, PLAIN_CALLS + TRANSPORT_CALLS, "plain")))
     ours = sum(sizes[0][1])
     rows = [[name, *of, sum(of), "" if name == "library" else "%.2f" % (ours / sum(of))] for name, of in sizes]
     lines = table(["", "code", "read-only data", "data", "together", "library to it"], rows)
@@ -380,7 +380,7 @@ def quick(words):
     cases = [case for case in CASES if case.name.startswith(tuple(words.cases.split(",")))]
     with tempfile.TemporaryDirectory() as folder:
         tools.make("measure", folder, words.library, words.include)
-        tools.make(os.path.join(folder, "plain-Os.o"), folder, words.library, words.include)
+        tools.make("sizes", folder, words.library, words.include)
         found = checked(programs_in(folder))
         counted, goals = instruction_lines(cases, instructions(programs_in(folder), cases, found))
         stack, more = stack_lines(cases, found)
