@@ -1,46 +1,132 @@
 -- The laws of what is told of a record, by its kind. Assumes nothing.
-use mathlib.Core.Path.{_≡_}
+use mathlib.Core.Path.{_≡_, refl}
 use mathlib.Core.Bool.{Bool, true, false}
 use mathlib.Core.List.{List}
-use mathlib.Core.Option.{none, some}
+use mathlib.Core.Option.{Option, none, some}
 use Prim.Native.Nat.{ℕ, _≤_}
 use lib.Dec.{eqb, leb}
 use lib.ListN.{length}
-use borrow.Author.Tests.{ne-eqb}
+use borrow.Author.Tests.{ne-eqb, leb-true, leb-false}
+use Rattle.bookings.specs.Kept as bookings
+use Rattle.bookings.specs.declared.Bookings.{Bookings}
+use Rattle.receiver.specs.Reached as receiver
 use Rattle.receiver.specs.declared.Receiver.{Receiver}
-use Rattle.lines.specs.Lines.{unknownLine}
+use Rattle.lines.specs.Lines.{unknownLine, Says}
+use Rattle.lines.specs.declared.line.Line.{Line}
 use Rattle.lines.specs.declared.line.Line.the-variants.{Bytes}
 use Rattle.lines.proofs.Printing.{line-fits}
 use Rattle.probe_blocks.specs.Calls.{recordLine}
-use Rattle.probe_reports.specs.Reports.{unitText, reportText, Either, Same, freshIn, bufferIn, UnitTells, ReportTells}
-use Rattle.probe_reports.specs.declared.Told.{Told}
-use Rattle.probe.specs.Tells.{Tells}
+use Rattle.probe_reports.specs.Reports.{unitText, reportText, Either, freshIn, bufferIn, UnitTells, ReportTells}
+use Rattle.probe_reports.specs.declared.Told as reports
+use Rattle.probe_transport.specs.Calls.{freshText, bookText, readLine, buildLine, FreshTells, BookTells}
+use Rattle.probe_transport.specs.declared.Told as transport
+use Rattle.probe.specs.Tells.{StateReached, withReceiver, withBookings, ToReceiver, ToBookings, Prints, Tells}
+use Rattle.probe.specs.declared.State.{State}
+use Rattle.probe.specs.declared.Told.{Told}
 
-module _ (before : Receiver) (kind : ℕ) (body old new : List ℕ) (t : Told) where
-  pub tells-0 : kind ≡ 0 → UnitTells before body old new t → Tells before kind body old new t
-  unfolding Tells
-  tells-0 e w = rw e w
+-- ---- what is kept and told, by the record's kind
 
-  pub tells-4 : kind ≡ 4 → ReportTells before body old new t → Tells before kind body old new t
-  unfolding Tells
-  tells-4 e w = rw e w
+module _ (before : State) (k : StateReached before) where
+  to-receiver : (tells : reports.Told → Type 0) {t : Told} {told : reports.Told} → receiver.Reached (told .receiver)
+      → tells told → t ≡ withReceiver before told → StateReached (t .state) × ToReceiver tells before t
+  to-receiver tells {told = told} r h e =
+      (rw e (record { receiver = r; bookings = k .bookings }), record { told = told; holds = h; only = e })
 
-  pub tells-other : (kind ≡ 0 → ⊥) → (kind ≡ 4 → ⊥) → Same before (recordLine kind body) old new t → Tells before kind body old new t
-  unfolding Tells
-  tells-other a b w = rw (ne-eqb kind 0 a, ne-eqb kind 4 b) w
+  to-bookings : (tells : transport.Told → Type 0) {t : Told} {told : transport.Told} → bookings.Reached (told .bookings)
+      → tells told → t ≡ withBookings before told → StateReached (t .state) × ToBookings tells before t
+  to-bookings tells {told = told} r h e =
+      (rw e (record { receiver = k .receiver; bookings = r }), record { told = told; holds = h; only = e })
+
+  module _ (kind : ℕ) (body old new : List ℕ) where
+    abbrev Answers : Told → Type 0
+    Answers t = StateReached (t .state) × Tells before kind body old new t
+
+    module _ {t : Told} {told : reports.Told} (r : receiver.Reached (told .receiver)) where
+      pub tells-0 : kind ≡ 0 → UnitTells (before .receiver) body old new told → t ≡ withReceiver before told → Answers t
+      unfolding Tells
+      tells-0 e h w = rw e (to-receiver (UnitTells (before .receiver) body old new) r h w)
+
+      pub tells-4 : kind ≡ 4 → ReportTells (before .receiver) body old new told → t ≡ withReceiver before told
+          → Answers t
+      unfolding Tells
+      tells-4 e h w = rw e (to-receiver (ReportTells (before .receiver) body old new) r h w)
+
+    module _ {t : Told} {told : transport.Told} (r : bookings.Reached (told .bookings)) where
+      pub tells-11 : kind ≡ 11 → FreshTells old new told → t ≡ withBookings before told → Answers t
+      unfolding Tells
+      tells-11 e h w = rw e (to-bookings (FreshTells old new) r h w)
+
+      pub tells-12 : kind ≡ 12 → BookTells (before .bookings) body old new told → t ≡ withBookings before told
+          → Answers t
+      unfolding Tells
+      tells-12 e h w = rw e (to-bookings (BookTells (before .bookings) body old new) r h w)
+
+    module _ (line : Line) where
+      pub tells-9 : kind ≡ 9 → Says old (readLine body) new line → Answers (record { state = before; line = line })
+      unfolding Tells
+      tells-9 e w = rw e (k, record { says = w; same = refl })
+
+      pub tells-10 : kind ≡ 10 → Says old (buildLine body) new line → Answers (record { state = before; line = line })
+      unfolding Tells
+      tells-10 e w = rw e (k, record { says = w; same = refl })
+
+      pub tells-other : (kind ≡ 0 → ⊥) → (kind ≡ 4 → ⊥) → (kind ≡ 9 → ⊥) → (kind ≡ 10 → ⊥) → (kind ≡ 11 → ⊥)
+          → (kind ≡ 12 → ⊥) → Says old (recordLine kind body) new line
+          → Answers (record { state = before; line = line })
+      unfolding Tells
+      tells-other n₀ n₄ n₉ n₁₀ n₁₁ n₁₂ w =
+          let none = ne-eqb kind in
+          rw (none 0 n₀, none 4 n₄, none 9 n₉, none 10 n₁₀, none 11 n₁₁, none 12 n₁₂)
+          (k, record { says = w; same = refl })
+
+-- ---- a line that was written fits its buffer
 
 either-fits : (b : Bool) {A B : Type 0} {n m : ℕ} → (A → n ≤ m) → (B → n ≤ m) → Either b A B → n ≤ m
 either-fits true f g x = f x
 either-fits false f g x = g x
 
--- a line that was written fits its buffer
-pub told-fits : (before : Receiver) (kind : ℕ) (body old new : List ℕ) (t : Told) {n : ℕ} → t .line ≡ Bytes n → Tells before kind body old new t → n ≤ length new
-unfolding Tells UnitTells ReportTells
-told-fits before kind body old new t e =
-    either-fits (eqb kind 0)
-    (either-fits (leb 12 (length body)) (λ x. line-fits old (some (unitText (freshIn body .fault))) new e (x .0)) (λ x. line-fits old none new e (x .0)))
-    (either-fits (eqb kind 4)
-    (either-fits (leb 5 (length body))
-    (either-fits (leb (bufferIn body) 1024) (λ x. line-fits old (some (reportText (x .reply .answer) (x .after))) new e (x .said)) (λ x. line-fits old unknownLine new e (x .0)))
-    (λ x. line-fits old none new e (x .0)))
-    (λ x. line-fits old (recordLine kind body) new e (x .0)))
+module _ (body old new : List ℕ) {n : ℕ} where
+  unit-fits : (r : Receiver) (t : reports.Told) → t .line ≡ Bytes n → UnitTells r body old new t → n ≤ length new
+  unfolding UnitTells
+  unit-fits r t e =
+      either-fits (leb 12 (length body))
+      (λ x. line-fits old (some (unitText (freshIn body .fault))) new e (x .0))
+      (λ x. line-fits old none new e (x .0))
+
+  report-fits : (r : Receiver) (t : reports.Told) → t .line ≡ Bytes n → ReportTells r body old new t → n ≤ length new
+  unfolding ReportTells
+  report-fits r t e =
+      either-fits (leb 5 (length body))
+      (either-fits (leb (bufferIn body) 1024)
+      (λ x. line-fits old (some (reportText (x .reply .answer) (x .after))) new e (x .said))
+      (λ x. line-fits old unknownLine new e (x .0)))
+      (λ x. line-fits old none new e (x .0))
+
+  fresh-fits : (t : transport.Told) → t .line ≡ Bytes n → FreshTells old new t → n ≤ length new
+  unfolding FreshTells
+  fresh-fits t e x = line-fits old (some freshText) new e (x .0)
+
+  book-fits : (b : Bookings) (t : transport.Told) → t .line ≡ Bytes n → BookTells b body old new t → n ≤ length new
+  book-fits b t e x = fits-when (leb 17 (length body)) refl
+    where
+      fits-when : (d : Bool) → leb 17 (length body) ≡ d → n ≤ length new
+      fits-when true h =
+          let c = x .called (leb-true 17 (length body) h) in
+          line-fits old (some (bookText (c .reply .booked))) new e (c .said)
+      fits-when false h = line-fits old none new e (x .short (leb-false 17 (length body) h) .0)
+
+  prints-fits : (line : Option (List ℕ)) (before : State) (t : Told) → t .line ≡ Bytes n → Prints line before old new t
+      → n ≤ length new
+  prints-fits line before t e x = line-fits old line new e (x .says)
+
+  pub told-fits : (before : State) (kind : ℕ) (t : Told) → t .line ≡ Bytes n → Tells before kind body old new t
+      → n ≤ length new
+  unfolding Tells
+  told-fits before kind t e =
+      either-fits (eqb kind 0) (λ x. unit-fits (before .receiver) (x .told) (rw (x .only) at e) (x .holds))
+      (either-fits (eqb kind 4) (λ x. report-fits (before .receiver) (x .told) (rw (x .only) at e) (x .holds))
+      (either-fits (eqb kind 9) (prints-fits (readLine body) before t e)
+      (either-fits (eqb kind 10) (prints-fits (buildLine body) before t e)
+      (either-fits (eqb kind 11) (λ x. fresh-fits (x .told) (rw (x .only) at e) (x .holds))
+      (either-fits (eqb kind 12) (λ x. book-fits (before .bookings) (x .told) (rw (x .only) at e) (x .holds))
+      (prints-fits (recordLine kind body) before t e))))))

@@ -15,77 +15,146 @@
 //         block FAULT LAST FIRST BITS
 //     8 layout             X 1, F 1, i 1
 //         frame FAULT FRAME
+//     9 read transport     message type 1, elements 8, n 4, message: the rest
+//         transport FAULT KIND ADDRESSED CMNI CSSI PROTOCOL REQUEST SHORT ACKREQ STORAGE STATUS REFERENCE VALIDITY FTYPE
+//             FADDRESS FIRST BITS
+//    10 build transport    message type 1, FCS flag 1, addressed 1, caller's MNI 4, caller's SSI 4, kind 1, protocol 1,
+//                          request 1, short form 1, ack required 1, storage 1, status 1, reference 1, validity 1,
+//                          forward type 1, forward address 8, n 4, output length 2 (at most 1,024), user data: the rest
+//         sdu FAULT BITS HEX REST
+//    11 bookings           nothing
+//         bookings
+//    12 book               source 4, message type 1, elements 8, n 4, message: the rest
+//         book FAULT MARK KIND REFERENCE
 // Settings make the receiver a fresh one, and so does the start, with three zeros; a report goes to the receiver that the record before left.
+// Kind 11 makes the bookings fresh ones, and so does the start; kind 12 goes to the bookings that the record before
+// left.
 // The buffer of a report and the output of a build are filled with 5A (hexadecimal) before the call. HEX is what was written, two lower case
-// digits for each byte: the first (BITS + 7) / 8 of the buffer, 24 + 34 K of the output; `-` for none. REST is 1 if every later byte is still
-// 5A, else 0.
+// digits for each byte: the first (BITS + 7) / 8 of the buffer or of the output of kind 10, 24 + 34 K of the output of
+// kind 5; `-` for none. REST is 1 if every later byte is still 5A, else 0.
+// KIND is 1 transfer, 2 report, 3 ack, 4 short report, 0 refused. ADDRESSED is 1 with a calling party, whose MNI and SSI
+// are CMNI and CSSI. STATUS is the delivery status, of a short report its type. FADDRESS is the forward address as one
+// number: SSI, or SSI times 2^24 and the extension. FIRST and BITS are the user data's. MARK is 0 nothing to book, 1
+// booked, 2 again. Of the elements of kinds 9 and 12 the last bit alone counts; a number that a message does not have is
+// 0.
 // What a body has more than its kind takes is left alone. Another kind, or a buffer or an output above 1,024, prints `kind`, and is skipped. A
 // record that is cut off, has a length below 2 or a body above 4,096 bytes, or is shorter than its kind, prints `cut`, and nothing is read after it.
+ghost use mathlib.Core.Path.{_≡_};
 ghost use Prim.Native.Nat.{_≤_};
 ghost use lib.ListN.{length};
-ghost use Rattle.receiver.specs.Reached.{Reached};
-ghost use Rattle.probe.specs.Tells.{Tells, Kept};
+ghost use Rattle.probe.specs.Tells.{StateReached, withReceiver, withBookings, Tells, Kept};
+use bookings::Bookings;
 use lines::input::Taken;
 use lines::line;
 use lines::line::Line;
-use probe_reports::Told;
 use receiver::Receiver;
 
-// The receiver after a record, and whether another is to be read.
-struct Step {
+// What is kept from one record to the next.
+struct State {
     receiver: Receiver,
+    bookings: Bookings,
+}
+
+// What is kept after a record, and the record's line.
+struct Told {
+    state: State,
+    line: Line,
+}
+
+// What is kept after a record, and whether another is to be read.
+struct Step {
+    state: State,
     more: bool,
 }
 
-// The line of any record, and the receiver after it.
-fn tell(before: Receiver, kind: u16, body: &[u8], line: &mut [u8]) -> Told
-    requires { ⌜ Reached before × (4096 ≤ length (now line)) ⌝ }
-    ensures { λ t. ⌜ Reached (t .receiver) × Tells before kind (now (body .entry)) (now (line .entry)) (now (line .exit)) t ⌝ }
+// With the receiver that was told.
+fn with_receiver(before: State, told: probe_reports::Told) -> Told
+    ensures { λ t. ⌜ t ≡ withReceiver before told ⌝ }
 {
+    let receiver = told.receiver;
+    let bookings = before.bookings;
+    let line = told.line;
+    Told {
+        state: State { receiver, bookings },
+        line,
+    }
+}
+
+// With the bookings that were told.
+fn with_bookings(before: State, told: probe_transport::Told) -> Told
+    ensures { λ t. ⌜ t ≡ withBookings before told ⌝ }
+{
+    let receiver = before.receiver;
+    let bookings = told.bookings;
+    let line = told.line;
+    Told {
+        state: State { receiver, bookings },
+        line,
+    }
+}
+
+// The line of any record, and what is kept after it.
+fn tell(before: State, kind: u16, body: &[u8], line: &mut [u8]) -> Told
+    requires { ⌜ StateReached before × (4096 ≤ length (now line)) ⌝ }
+    ensures { λ t. ⌜ StateReached (t .state)
+        × Tells before kind (now (body .entry)) (now (line .entry)) (now (line .exit)) t ⌝ }
+{
+    let receiver = before.receiver;
+    let bookings = before.bookings;
     match kind {
-        0 => probe_reports::unit(before, body, line),
-        4 => probe_reports::report(before, body, line),
+        0 => with_receiver(before, probe_reports::unit(receiver, body, line)),
+        4 => with_receiver(before, probe_reports::report(receiver, body, line)),
+        9 => Told {
+            state: before,
+            line: probe_transport::read(body, line),
+        },
+        10 => Told {
+            state: before,
+            line: probe_transport::build(body, line),
+        },
+        11 => with_bookings(before, probe_transport::fresh(line)),
+        12 => with_bookings(before, probe_transport::book(bookings, body, line)),
         _ => Told {
-            receiver: before,
+            state: before,
             line: probe_blocks::answer(kind, body, line),
         },
     }
 }
 
 // Answers a record.
-fn answered(before: Receiver, kind: u16, body: &[u8]) -> Step
-    requires { ⌜ Reached before ⌝ }
-    ensures { λ s. ⌜ Reached (s .receiver) × Kept before kind (now (body .entry)) (s .receiver) ⌝ }
+fn answered(before: State, kind: u16, body: &[u8]) -> Step
+    requires { ⌜ StateReached before ⌝ }
+    ensures { λ s. ⌜ StateReached (s .state) × Kept before kind (now (body .entry)) (s .state) ⌝ }
 {
     let mut out = [0u8; 4096];
     let told = tell(before, kind, body, &mut out);
-    let receiver = told.receiver;
+    let state = told.state;
     let said = told.line;
     let Line::Bytes(n) = said else {
         return Step {
-            receiver,
+            state,
             more: line::cut(),
         };
     };
     Step {
-        receiver,
+        state,
         more: line::say(&out, n),
     }
 }
 
-fn next(before: Receiver) -> Step
-    requires { ⌜ Reached before ⌝ }
-    ensures { λ s. ⌜ Reached (s .receiver) ⌝ }
+fn next(before: State) -> Step
+    requires { ⌜ StateReached before ⌝ }
+    ensures { λ s. ⌜ StateReached (s .state) ⌝ }
 {
     let mut body = io::buffer();
     match lines::input::take(&mut body) {
         Taken::Record(kind, n) => answered(before, kind, &body[..n]),
         Taken::Cut => Step {
-            receiver: before,
+            state: before,
             more: line::cut(),
         },
         Taken::End => Step {
-            receiver: before,
+            state: before,
             more: false,
         },
     }
@@ -95,13 +164,14 @@ fn next(before: Receiver) -> Step
 fn main() {
     let fresh = Receiver::fresh(0, 0, 0);
     let receiver = fresh.receiver;
+    let bookings = Bookings::fresh();
     let mut step = Step {
-        receiver,
+        state: State { receiver, bookings },
         more: true,
     };
     let mut turns = u64::MAX;
     while 0 < turns && step.more {
-        let before = step.receiver;
+        let before = step.state;
         step = next(before);
         turns -= 1;
     }

@@ -30,7 +30,7 @@ say-requires c κs =
     let a = c .before .before .before .before .before .before .before .before .before .args in
     let t = c .before .before .before .before .before .before .tell in
     let e = c .before .before .said .given .1 in
-    told-fits (a .before) (a .kind) (a .body .now) (replicate 4096 0) _ (t .result) e (t .ensures .1)
+    told-fits (a .body .now) (replicate 4096 0) _ (a .before) (a .kind) (t .result) e (t .ensures .1)
 
 returns-2 : tie.Need-returns-2
 returns-2 c = search needs

@@ -1,16 +1,19 @@
-use Rattle.receiver.specs.Reached.{Reached}
+use Rattle.probe.specs.Tells.{StateReached}
 use borrow.Author.Needs.{needs}
 use Rattle.probe.proofs.main.Statement.{statement}
 use Rattle.probe.proofs.main.Tie as tie
 
 abbrev Inv-loop : tie.InvT-loop
-Inv-loop step₀ turns₀ step turns = Reached (step .receiver)
+Inv-loop step₀ turns₀ step turns = StateReached (step .state)
 
 abbrev μ-loop : tie.MeasureT-loop
 μ-loop step₀ turns₀ step turns = turns
 
 fresh-requires : tie.Need-fresh-requires Inv-loop μ-loop
 fresh-requires c κs = search needs
+
+fresh-requires-2 : tie.Need-fresh-requires-2 Inv-loop μ-loop
+fresh-requires-2 c κs = search needs
 
 loop-holds : tie.Need-loop-holds Inv-loop μ-loop
 loop-holds c = search needs
@@ -40,6 +43,7 @@ main-spec =
     Inv-loop
     μ-loop
     fresh-requires
+    fresh-requires-2
     loop-holds
     next-requires
     sub-turns

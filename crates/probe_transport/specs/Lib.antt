@@ -1,0 +1,3 @@
+-- The definitions that the contracts of `probe_transport` cite.
+pub mod Body
+pub mod Calls
