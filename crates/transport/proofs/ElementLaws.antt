@@ -15,7 +15,8 @@ use Rattle.bits.specs.Bits.{bitsOf, num, field, Got}
 use Rattle.bits.proofs.Numbers.{take-of-drop, num-field, ones-of}
 use Rattle.bits.proofs.Bytes.{length-bitsOf}
 use Rattle.transport.specs.Layouts.{per, forwardWidth}
-use Rattle.transport.specs.Elements.{whole, cut, runIn, storedAt}
+use Rattle.transport.specs.Elements.{whole}
+use Rattle.transport.specs.Runs.{cut, runIn, storedAt}
 
 -- ---- widths
 
@@ -72,8 +73,8 @@ shl-shr : (v a : ℕ) → v * 2 ^ a / 2 ^ a ≡ v
 shl-shr v a = ap (λ (y : ℕ). y / 2 ^ a) (sym (add-zero (v * 2 ^ a))) ∙ high v a (pow-pos a)
 
 -- an element of a run that is all there
-pub part-is : (p w after m : ℕ) {place : ℕ} (b : List Bool) → place + m + after ≡ p + w → p ≤ place → place + m ≤ length b
-    → cut after m (runIn p w b) ≡ whole place m b
+pub part-is : (p w after m : ℕ) {place : ℕ} (b : List Bool) → place + m + after ≡ p + w → p ≤ place
+    → place + m ≤ length b → cut after m (runIn p w b) ≡ whole place m b
 unfolding cut runIn
 part-is p w after m {place} b e l h =
     let j = min (length b - p) w in
@@ -87,14 +88,17 @@ part-is p w after m {place} b e l h =
     let ep : p + k ≡ place = omega arith in
     let up : num x * 2 ^ (w - j) / 2 ^ (w - j) ≡ num x = shl-shr (num x) (w - j) in
     let shifted : num x * 2 ^ (w - j) / 2 ^ after ≡ num x / 2 ^ r =
-    ap (λ (y : ℕ). num x * 2 ^ (w - j) / 2 ^ y) ea ∙ sym (shr-shr (num x * 2 ^ (w - j)) (w - j) r) ∙ ap (λ (y : ℕ). y / 2 ^ r) up in
+    ap (λ (y : ℕ). num x * 2 ^ (w - j) / 2 ^ y) ea ∙ sym (shr-shr (num x * 2 ^ (w - j)) (w - j) r)
+    ∙ ap (λ (y : ℕ). y / 2 ^ r) up in
     let own : num x / 2 ^ r % 2 ^ m ≡ field place m b =
-    num-field x k m r ex ∙ ap num (take-of-drop m k j (drop p b) ek) ∙ ap (λ (y : List Bool). num (take m y)) (drop-drop k p b)
+    num-field x k m r ex ∙ ap num (take-of-drop m k j (drop p b) ek)
+    ∙ ap (λ (y : List Bool). num (take m y)) (drop-drop k p b)
     ∙ ap (λ (y : ℕ). field y m b) ep in
     rw (le-ltb (length b) (place + m) h) (ap (λ (y : ℕ). y % 2 ^ m) shifted ∙ own)
 
 -- one bit of a run that is not there
-bit-past : (p w after : ℕ) (b : List Bool) → after + 1 ≤ w → length b - p + (after + 1) ≤ w → cut after 1 (runIn p w b) ≡ 0
+bit-past : (p w after : ℕ) (b : List Bool) → after + 1 ≤ w → length b - p + (after + 1) ≤ w
+    → cut after 1 (runIn p w b) ≡ 0
 unfolding cut runIn
 bit-past p w after b h u =
     let j = min (length b - p) w in
@@ -104,13 +108,15 @@ bit-past p w after b h u =
     let split : x * 2 ^ (w - j) ≡ x * 2 ^ r * 2 * 2 ^ after =
     ap (λ (y : ℕ). x * 2 ^ y) e
     ∙ rw (pow-add 2 (suc r) after, pow-suc 2 r, ← mul-assoc x (2 ^ r * 2) (2 ^ after), ← mul-assoc x (2 ^ r) 2) refl in
-    ap (λ (y : ℕ). y / 2 ^ after % 2 ^ 1) split ∙ ap (λ (y : ℕ). y % 2 ^ 1) (shl-shr (x * 2 ^ r * 2) after) ∙ omega arith
+    ap (λ (y : ℕ). y / 2 ^ after % 2 ^ 1) split ∙ ap (λ (y : ℕ). y % 2 ^ 1) (shl-shr (x * 2 ^ r * 2) after)
+    ∙ omega arith
 
 -- one bit of a run, there or not
-bit-when : (p w after : ℕ) {place : ℕ} (b : List Bool) (t : Bool) → ltb (length b) (place + 1) ≡ t → place + 1 + after ≡ p + w → p ≤ place
-    → cut after 1 (runIn p w b) ≡ whole place 1 b
+bit-when : (p w after : ℕ) {place : ℕ} (b : List Bool) (t : Bool) → ltb (length b) (place + 1) ≡ t
+    → place + 1 + after ≡ p + w → p ≤ place → cut after 1 (runIn p w b) ≡ whole place 1 b
 bit-when p w after {place} b false t e l = part-is p w after 1 b e l (ltb-false (length b) (place + 1) t)
-bit-when p w after {place} b true t e l = rw t (bit-past p w after b (omega arith) (let h = ltb-true (length b) (place + 1) t in omega arith))
+bit-when p w after {place} b true t e l =
+    let h = ltb-true (length b) (place + 1) t in rw t (bit-past p w after b (omega arith) (omega arith))
 
 pub bit-is : (p w after : ℕ) {place : ℕ} (b : List Bool) → place + 1 + after ≡ p + w → p ≤ place
     → cut after 1 (runIn p w b) ≡ whole place 1 b
@@ -134,8 +140,9 @@ not-there place w b h = rw (lt-ltb (length b) (place + w) h) refl
 pub forward-le-of : {w : ℕ} (forward : ℕ) → w ≡ forwardWidth forward → w ≤ 48
 forward-le-of forward e = rw e (forward-le forward)
 
-pub stored-code : (place storage : ℕ) (b : List Bool) {x f w v a : ℕ} → (storage ≡ 0 → ⊥) → x ≡ runIn place 56 b → f ≡ cut 48 3 x
-    → w ≡ forwardWidth f → v ≡ cut 51 5 x → a ≡ cut (48 - w) w x
-    → record { validity = v; forward = f; address = a; typed = place + 8; next = place + 8 + w } ≡ storedAt place storage b
+pub stored-code : (place storage : ℕ) (b : List Bool) {x f w v a : ℕ} → (storage ≡ 0 → ⊥) → x ≡ runIn place 56 b
+    → f ≡ cut 48 3 x → w ≡ forwardWidth f → v ≡ cut 51 5 x → a ≡ cut (48 - w) w x
+    → record { validity = v; forward = f; address = a; typed = place + 8; next = place + 8 + w }
+    ≡ storedAt place storage b
 unfolding storedAt
 stored-code place storage b h ex ef ew ev ea = rw (ne-eqb storage 0 h, ea, ev, ew, ef, ex) refl

@@ -15,15 +15,16 @@ use Rattle.blocks.proofs.FaultLaws.{all-zero, holds, chain-none, chain-given}
 use Rattle.fcs.specs.Annex.{fcsOf}
 use Rattle.transport.specs.Layouts.{ackOf, per, Shape, shape, at}
 use Rattle.transport.specs.Elements.{elementIn, addressedIn, kindIn, storageIn, forwardIn, shapeOf, endIn}
-use Rattle.transport.specs.Elements.{runIn, frontOf, kindAt, fixedAt, storedAt, frontRules, endRules}
-use Rattle.transport.specs.Reading.{direct, forwardHolds, fcsHolds, sduRules, rulesOf, transportOf, refusedTransport, answered}
-use Rattle.transport.specs.Reading.{readBits, readOf, sduBits}
+use Rattle.transport.specs.Runs.{runIn, frontOf, kindAt, fixedAt, storedAt, frontRules, endRules}
+use Rattle.transport.specs.Reading.{direct, forwardHolds, fcsHolds, sduRules, rulesOf, transportOf}
+use Rattle.transport.specs.Reading.{refusedTransport, answered, readBits, readOf, sduBits}
 use Rattle.transport.specs.declared.elements.Front.{Front}
 use Rattle.transport.specs.declared.elements.Fixed.{Fixed}
 use Rattle.transport.specs.declared.elements.Stored.{Stored}
 use Rattle.transport.specs.declared.Transport.{Transport}
 use Rattle.transport.proofs.ElementLaws.{length-sdu, per-le}
-use Rattle.transport.proofs.RunLaws.{sdtiAt, storage-le, exact, flagged, front-next, front-is, kind-is, Told, told, Agreed, fixed-is, StoredAs, stored-is}
+use Rattle.transport.proofs.RunLaws.{sdtiAt, exact, flagged, front-next, front-is, kind-is, Told, told}
+use Rattle.transport.proofs.RunLaws.{Agreed, fixed-is, storage-le, StoredAs, stored-is}
 
 -- ---- the FCS
 
@@ -74,13 +75,15 @@ fifth true true true true n ns = refl
 no-kind : (carrier acknowledged ack address addressed : ℕ) (forward check : Bool) (fixed end flag n : ℕ)
     → firstOf (sduRules carrier acknowledged ack address addressed 0 forward check fixed end flag n) ≡ 21
 no-kind carrier acknowledged ack address addressed forward check fixed end flag n =
-    fifth (leb 22 carrier) (leb carrier 24) (eqb acknowledged ack) (eqb address addressed) 20 (endRules forward check fixed end flag n)
+    fifth (leb 22 carrier) (leb carrier 24) (eqb acknowledged ack) (eqb address addressed) 20
+    (endRules forward check fixed end flag n)
 
 -- where the bits end before the elements do
 abbrev lastRules : ℕ → ℕ → ℕ → ℕ → List ℕ
 lastRules fixed end flag n = unless (leb fixed end) 22 ∷ unless (leb (end + 32 * flag) n) 22 ∷ []
 
-short-when : (fixed end flag n : ℕ) (t : Bool) → leb fixed end ≡ t → n < fixed → firstOf (lastRules fixed end flag n) ≡ 22
+short-when : (fixed end flag n : ℕ) (t : Bool) → leb fixed end ≡ t → n < fixed
+    → firstOf (lastRules fixed end flag n) ≡ 22
 short-when fixed end flag n false t h = rw t refl
 short-when fixed end flag n true t h =
     let l = leb-true fixed end t in rw (t, lt-leb (end + 32 * flag) n (omega arith)) refl
@@ -99,14 +102,16 @@ holds-short storage forward typed end n h =
     rw (lt-ltb n typed h) (holds-when (eqb storage 1) (ltb end typed) (direct forward))
 
 -- what the rules show where none is broken
-end-shows : (forward check : Bool) (fixed end flag n : ℕ) → firstOf (endRules forward check fixed end flag n) ≡ 0 → (fixed ≤ end) × (end + 32 * flag ≤ n)
+end-shows : (forward check : Bool) (fixed end flag n : ℕ) → firstOf (endRules forward check fixed end flag n) ≡ 0
+    → (fixed ≤ end) × (end + 32 * flag ≤ n)
 end-shows forward check fixed end flag n e =
     let z = all-zero (endRules forward check fixed end flag n) e in (
       leb-true fixed end (holds (leb fixed end) 21 (z .1 .1 .0)),
       leb-true (end + 32 * flag) n (holds (leb (end + 32 * flag) n) 21 (z .1 .1 .1 .0)),
     )
 
-pub end-fits : (forward check : Bool) (fixed end flag n : ℕ) {fault : ℕ} → fault ≡ firstOf (endRules forward check fixed end flag n) → fault ≡ 0 → fixed ≤ end
+pub end-fits : (forward check : Bool) (fixed end flag n : ℕ) {fault : ℕ}
+    → fault ≡ firstOf (endRules forward check fixed end flag n) → fault ≡ 0 → fixed ≤ end
 end-fits forward check fixed end flag n e z = end-shows forward check fixed end flag n (sym e ∙ z) .0
 
 -- a refusal, and a message that none of the rules refuses
@@ -164,7 +169,8 @@ module _ (carrier flag : ℕ) (b : List Bool) where
 
   abbrev pub rulesWith : ℕ → Front → ℕ → Fixed → Stored → ℕ → ℕ → List ℕ
   rulesWith ack f kind x t end n =
-      sduRules carrier (f .acknowledged) ack (f .kind) (f .addressed) kind (forwardHolds (x .storage) (t .forward) (t .typed) end n)
+      sduRules carrier (f .acknowledged) ack (f .kind) (f .addressed) kind
+      (forwardHolds (x .storage) (t .forward) (t .typed) end n)
       (fcsHolds flag end b) (t .next) end flag n
 
   abbrev answerWith : ℕ → Front → ℕ → Fixed → Stored → ℕ → ℕ → Transport
@@ -177,7 +183,8 @@ module _ (carrier flag : ℕ) (b : List Bool) where
       answerWith ack f kind x (storedAt (x .next) (x .storage) b) (endWith kind x) (length b)
 
   -- the elements agree
-  module _ (ack a k t v : ℕ) (x : Fixed) (y : Stored) (es : x .storage ≡ t) (g : Agreed (shape ack a k t v) b x) (h : StoredAs (shape ack a k t v) b y) where
+  module _ (ack a k t v : ℕ) (x : Fixed) (y : Stored) (es : x .storage ≡ t)
+      (g : Agreed (shape ack a k t v) b x) (h : StoredAs (shape ack a k t v) b y) where
     abbrev q : Shape
     q = shape ack a k t v
 
@@ -193,12 +200,15 @@ module _ (carrier flag : ℕ) (b : List Bool) where
         let l = ltb-true (length b) (at 19 q) d in
         let ours : forwardHolds (x .storage) (y .forward) (y .typed) (endWith k x) (length b) ≡ true =
         holds-short (x .storage) (y .forward) (y .typed) (endWith k x) (length b) (rw (h .typed) l) in
-        let theirs : forwardHolds t v (at 19 q) (endIn q b) (length b) ≡ true = holds-short t v (at 19 q) (endIn q b) (length b) l in
+        let theirs : forwardHolds t v (at 19 q) (endIn q b) (length b) ≡ true =
+        holds-short t v (at 19 q) (endIn q b) (length b) l in
         let far = h .far in
         let u = short-rules (y .next) (endIn q b) flag (length b) (omega arith) in
         let w = short-rules (at 20 q) (endIn q b) flag (length b) (omega arith) in
         rw (ours, theirs, g .end)
-        (chain-same (frontRules carrier (f .acknowledged) ack (f .kind) a ++ (unless (leb 1 k) 21 ∷ unless true 21 ∷ unless (fcsHolds flag (endIn q b) b) 21 ∷ []))
+        (chain-same
+        (frontRules carrier (f .acknowledged) ack (f .kind) a
+        ++ (unless (leb 1 k) 21 ∷ unless true 21 ∷ unless (fcsHolds flag (endIn q b) b) 21 ∷ []))
         (lastRules (y .next) (endIn q b) flag (length b)) (lastRules (at 20 q) (endIn q b) flag (length b)) (u ∙ sym w))
 
     rules-are : firstOf (rulesWith ack f k x y (endWith k x) (length b)) ≡ firstOf (rulesOf carrier flag q b)
@@ -209,11 +219,12 @@ module _ (carrier flag : ℕ) (b : List Bool) where
         let e = endIn q b in
         let last = chain-zero (frontRules carrier (f .acknowledged) ack (f .kind) a ++ (unless (leb 1 k) 21 ∷ []))
         (endRules (forwardHolds t v (at 19 q) e (length b)) (fcsHolds flag e b) (at 20 q) e flag (length b)) z in
-        let ends = end-shows (forwardHolds t v (at 19 q) e (length b)) (fcsHolds flag e b) (at 20 q) e flag (length b) last in
+        let n = length b in
+        let ends = end-shows (forwardHolds t v (at 19 q) e n) (fcsHolds flag e b) (at 20 q) e flag n last in
         let l : at 20 q ≤ length b = omega (arith, ends .0, ends .1) in
         let l₁₉ : at 19 q ≤ length b = omega arith in
         let r = g .rest (omega arith) in
-        let n = h .next l₁₉ in
+        let o = h .next l₁₉ in
         λ i. record {
           fault = 0;
           message = record {
@@ -232,15 +243,17 @@ module _ (carrier flag : ℕ) (b : List Bool) where
             forward = h .forward l₁₉ i;
             address = h .address l i;
           };
-          first = per k (n i) (n i) 0 0;
-          bits = per k (g .end i - n i) (g .end i - n i) 0 0;
+          first = per k (o i) (o i) 0 0;
+          bits = per k (g .end i - o i) (g .end i - o i) 0 0;
         }
 
-    agree : answerWith ack f k x y (endWith k x) (length b) ≡ answered (firstOf (rulesOf carrier flag q b)) (transportOf q b)
+    agree : answerWith ack f k x y (endWith k x) (length b)
+        ≡ answered (firstOf (rulesOf carrier flag q b)) (transportOf q b)
     agree = answered-same (found f k x y (endWith k x)) (transportOf q b) rules-are found-is
 
   -- where no kind is told, and where one is
-  of-kind : (ack a k t v : ℕ) (f : Front) → t ≡ elementIn 13 (shape ack a k 0 0) b → t ≤ 1 → v ≡ elementIn 18 (shape ack a k t 0) b → Told ack a k b
+  of-kind : (ack a k t v : ℕ) (f : Front) → t ≡ elementIn 13 (shape ack a k 0 0) b → t ≤ 1
+      → v ≡ elementIn 18 (shape ack a k t 0) b → Told ack a k b
       → (sdtiAt ack a ≤ length b → f ≡ exact ack a b) → let q = shape ack a k t v in
       answerFrom ack f (sdtiAt ack a) k ≡ answered (firstOf (rulesOf carrier flag q b)) (transportOf q b)
   of-kind ack a zero t v f et lt ev l ef =
@@ -249,9 +262,14 @@ module _ (carrier flag : ℕ) (b : List Bool) where
       let y = storedAt (x .next) (x .storage) b in
       let e = endWith 0 x in
       let n = length b in
-      let ours = no-kind carrier (f .acknowledged) ack (f .kind) (f .addressed) (forwardHolds (x .storage) (y .forward) (y .typed) e n) (fcsHolds flag e b) (y .next) e flag n in
-      let theirs = no-kind carrier (elementIn 0 q b) ack (elementIn 2 q b) a (forwardHolds t v (at 19 q) (endIn q b) n) (fcsHolds flag (endIn q b) b) (at 20 q) (endIn q b) flag n in
-      answered-same (found f 0 x y e) (transportOf q b) (ours ∙ sym theirs) (λ z. absurd (let w = sym theirs ∙ z in omega arith))
+      let ours =
+      no-kind carrier (f .acknowledged) ack (f .kind) (f .addressed)
+      (forwardHolds (x .storage) (y .forward) (y .typed) e n) (fcsHolds flag e b) (y .next) e flag n in
+      let theirs =
+      no-kind carrier (elementIn 0 q b) ack (elementIn 2 q b) a
+      (forwardHolds t v (at 19 q) (endIn q b) n) (fcsHolds flag (endIn q b) b) (at 20 q) (endIn q b) flag n in
+      answered-same (found f 0 x y e) (transportOf q b) (ours ∙ sym theirs)
+      (λ z. absurd (let w = sym theirs ∙ z in omega arith))
   of-kind ack a (suc k) t v f et lt ev l ef =
       let p = sdtiAt ack a in
       let x = fixedAt p (suc k) (runIn p 47 b) in
@@ -260,39 +278,48 @@ module _ (carrier flag : ℕ) (b : List Bool) where
       let es : x .storage ≡ t = g .storage ∙ sym et in
       let h = stored-is ack a (suc k) t v b lt ev in
       ap (λ (u : Front). answerFrom ack u p (suc k)) (ef (omega arith))
-      ∙ ap (λ (y : Stored). answerWith ack (exact ack a b) (suc k) x y (endWith (suc k) x) (length b)) (λ i. storedAt (g .next i) (es i) b)
+      ∙ ap (λ (y : Stored). answerWith ack (exact ack a b) (suc k) x y (endWith (suc k) x) (length b))
+      (λ i. storedAt (g .next i) (es i) b)
       ∙ agree ack a (suc k) t v x (storedAt (at 17 (shape ack a (suc k) t v)) t b) es g h
 
-  same : let ack = ackOf carrier in answerFrom ack (frontOf ack (runIn 0 53 b)) (sdtiAt ack (addressedIn ack b)) (kindIn ack b) ≡ readBits carrier flag b
+  same : let ack = ackOf carrier in
+      answerFrom ack (frontOf ack (runIn 0 53 b)) (sdtiAt ack (addressedIn ack b)) (kindIn ack b)
+      ≡ readBits carrier flag b
   unfolding readBits storageIn forwardIn
   same =
       let ack = ackOf carrier in
       let fl = flagged ack b (ack-le carrier refl) in
-      of-kind ack (addressedIn ack b) (kindIn ack b) (storageIn ack b) (forwardIn ack b) (frontOf ack (runIn 0 53 b)) refl (storage-le ack b) refl
-      (told ack b) (front-is ack (addressedIn ack b) b fl)
+      of-kind ack (addressedIn ack b) (kindIn ack b) (storageIn ack b) (forwardIn ack b) (frontOf ack (runIn 0 53 b))
+      refl (storage-le ack b) refl (told ack b) (front-is ack (addressedIn ack b) b fl)
 
-  read-is : {ack x₀ place y kind end n : ℕ} {f : Front} {x : Fixed} {t : Stored} → length b ≡ n → ack ≡ ackOf carrier → x₀ ≡ runIn 0 53 b
-      → f ≡ frontOf ack x₀ → place ≡ f .next → y ≡ runIn place 47 b → kind ≡ kindAt n place y ack → x ≡ fixedAt place kind y
-      → t ≡ storedAt (x .next) (x .storage) b → end ≡ endWith kind x → answerWith ack f kind x t end n ≡ readBits carrier flag b
+  read-is : {ack x₀ place y kind end n : ℕ} {f : Front} {x : Fixed} {t : Stored} → length b ≡ n
+      → ack ≡ ackOf carrier → x₀ ≡ runIn 0 53 b → f ≡ frontOf ack x₀ → place ≡ f .next → y ≡ runIn place 47 b
+      → kind ≡ kindAt n place y ack → x ≡ fixedAt place kind y → t ≡ storedAt (x .next) (x .storage) b
+      → end ≡ endWith kind x → answerWith ack f kind x t end n ≡ readBits carrier flag b
   read-is {ack} {x₀} {place} {y} {kind} {end} {n} {f} {x} {t} el ea e₀ ef ep ey ek ex et ee =
       let fl = flagged (ackOf carrier) b (ack-le carrier refl) in
       let a = addressedIn (ackOf carrier) b in
       let g = frontOf (ackOf carrier) (runIn 0 53 b) in
       let eg : f ≡ g = ef ∙ (λ i. frontOf (ea i) (e₀ i)) in
-      let at5 : place ≡ sdtiAt (ackOf carrier) a = ep ∙ ap (λ (u : Front). u .next) eg ∙ front-next (ackOf carrier) a (runIn 0 53 b) fl .1 in
+      let at5 : place ≡ sdtiAt (ackOf carrier) a =
+      ep ∙ ap (λ (u : Front). u .next) eg ∙ front-next (ackOf carrier) a (runIn 0 53 b) fl .1 in
       let kinds : kind ≡ kindIn (ackOf carrier) b =
-      ek ∙ (λ i. kindAt (sym el i) place (ey i) (ea i)) ∙ ap (λ (p : ℕ). kindAt (length b) p (runIn p 47 b) (ackOf carrier)) at5 ∙ kind-is (ackOf carrier) b in
+      ek ∙ (λ i. kindAt (sym el i) place (ey i) (ea i))
+      ∙ ap (λ (p : ℕ). kindAt (length b) p (runIn p 47 b) (ackOf carrier)) at5
+      ∙ kind-is (ackOf carrier) b in
       ap (λ (m : ℕ). answerWith ack f kind x t end m) (sym el)
       ∙ ap (λ (e : ℕ). answerWith ack f kind x t e (length b)) ee
       ∙ ap (λ (u : Stored). answerWith ack f kind x u (endWith kind x) (length b)) et
-      ∙ ap (λ (u : Fixed). answerWith ack f kind u (storedAt (u .next) (u .storage) b) (endWith kind u) (length b)) (ex ∙ ap (fixedAt place kind) ey)
+      ∙ ap (λ (u : Fixed). answerWith ack f kind u (storedAt (u .next) (u .storage) b) (endWith kind u) (length b))
+      (ex ∙ ap (fixedAt place kind) ey)
       ∙ (λ i. answerFrom (ea i) (eg i) (at5 i) (kinds i))
       ∙ same
 
 -- ---- each of its answers
 
 module _ (carrier flag n : ℕ) (s : List ℕ) (h : n ≤ 8 * length s) {ack x₀ : ℕ} {f : Front} (ea : ack ≡ ackOf carrier)
-    (e₀ : x₀ ≡ runIn 0 53 (sduBits n s)) (ef : f ≡ frontOf ack x₀) {y kind : ℕ} (ey : y ≡ runIn (f .next) 47 (sduBits n s))
+    (e₀ : x₀ ≡ runIn 0 53 (sduBits n s)) (ef : f ≡ frontOf ack x₀) {y kind : ℕ}
+    (ey : y ≡ runIn (f .next) 47 (sduBits n s))
     (ek : kind ≡ kindAt n (f .next) y ack) where
   abbrev all : List Bool
   all = sduBits n s
@@ -300,22 +327,27 @@ module _ (carrier flag n : ℕ) (s : List ℕ) (h : n ≤ 8 * length s) {ack x�
   abbrev front : List ℕ
   front = frontRules carrier (f .acknowledged) ack (f .kind) (f .addressed)
 
-  module _ {x : Fixed} {t : Stored} {end : ℕ} (ex : x ≡ fixedAt (f .next) kind y) (et : t ≡ storedAt (x .next) (x .storage) all)
+  module _ {x : Fixed} {t : Stored} {end : ℕ} (ex : x ≡ fixedAt (f .next) kind y)
+      (et : t ≡ storedAt (x .next) (x .storage) all)
       (ee : end ≡ endWith carrier flag all kind x) where
     abbrev message : Transport
     message = found carrier flag all f kind x t end
 
     abbrev last : List ℕ
-    last = endRules (forwardHolds (x .storage) (t .forward) (t .typed) end n) (fcsHolds flag end all) (t .next) end flag n
+    last =
+        endRules (forwardHolds (x .storage) (t .forward) (t .typed) end n) (fcsHolds flag end all) (t .next) end flag n
 
     abbrev rest : List ℕ
     rest = unless (leb 1 kind) 21 ∷ last
 
     given : {fault : ℕ} → firstOf (front ++ rest) ≡ fault → answered fault message ≡ readBits carrier flag all
-    given e = ap (λ (g : ℕ). answered g message) (sym e) ∙ read-is carrier flag all (length-sdu n s h) ea e₀ ef refl ey ek ex et ee
+    given e =
+        ap (λ (g : ℕ). answered g message) (sym e)
+        ∙ read-is carrier flag all (length-sdu n s h) ea e₀ ef refl ey ek ex et ee
 
     -- by what stands before the short data type identifier
-    front-with : {fault : ℕ} → fault ≡ firstOf front → (fault ≡ 0 → ⊥) → refusedTransport fault ≡ readBits carrier flag all
+    front-with : {fault : ℕ} → fault ≡ firstOf front → (fault ≡ 0 → ⊥)
+        → refusedTransport fault ≡ readBits carrier flag all
     front-with {fault} e r =
         answered-refused fault message r ∙ given (chain-given front rest (λ z. r (e ∙ z)) ∙ sym e)
 
@@ -324,22 +356,20 @@ module _ (carrier flag n : ℕ) (s : List ℕ) (h : n ≤ 8 * length s) {ack x�
     kind-with e z = given {fault = 21} (chain-none front rest e ∙ rw z refl)
 
     -- by what stands after the kind
-    last-is : firstOf front ≡ 0 → (kind ≡ 0 → ⊥) → {forward check : Bool} → forward ≡ forwardHolds (x .storage) (t .forward) (t .typed) end n
-        → check ≡ fcsHolds flag end all → {fault : ℕ} → fault ≡ firstOf (endRules forward check (t .next) end flag n)
-        → firstOf (front ++ rest) ≡ fault
-    last-is e k eh ec er = chain-none front rest e ∙ rw (le-leb 1 kind (omega arith)) (sym (er ∙ rw (eh, ec) refl))
+    module _ (e : firstOf front ≡ 0) (k : kind ≡ 0 → ⊥) {forward check : Bool} {fault : ℕ}
+        (eh : forward ≡ forwardHolds (x .storage) (t .forward) (t .typed) end n) (ec : check ≡ fcsHolds flag end all)
+        (er : fault ≡ firstOf (endRules forward check (t .next) end flag n)) where
+      last-is : firstOf (front ++ rest) ≡ fault
+      last-is = chain-none front rest e ∙ rw (le-leb 1 kind (omega arith)) (sym (er ∙ rw (eh, ec) refl))
 
-    pub last-refused : firstOf front ≡ 0 → (kind ≡ 0 → ⊥) → {forward check : Bool} → forward ≡ forwardHolds (x .storage) (t .forward) (t .typed) end n
-        → check ≡ fcsHolds flag end all → {fault : ℕ} → fault ≡ firstOf (endRules forward check (t .next) end flag n)
-        → (fault ≡ 0 → ⊥) → refusedTransport fault ≡ readBits carrier flag all
-    last-refused e k eh ec {fault} er r = answered-refused fault message r ∙ given (last-is e k eh ec er)
+      pub last-refused : (fault ≡ 0 → ⊥) → refusedTransport fault ≡ readBits carrier flag all
+      last-refused r = answered-refused fault message r ∙ given last-is
 
-    pub last-found : firstOf front ≡ 0 → (kind ≡ 0 → ⊥) → {forward check : Bool} → forward ≡ forwardHolds (x .storage) (t .forward) (t .typed) end n
-        → check ≡ fcsHolds flag end all → {fault : ℕ} → fault ≡ firstOf (endRules forward check (t .next) end flag n)
-        → fault ≡ 0 → message ≡ readBits carrier flag all
-    last-found e k eh ec {fault} er z = given (last-is e k eh ec er ∙ z)
+      pub last-found : fault ≡ 0 → message ≡ readBits carrier flag all
+      last-found z = given (last-is ∙ z)
 
-  pub front-refused : {fault : ℕ} → fault ≡ firstOf front → (fault ≡ 0 → ⊥) → refusedTransport fault ≡ readBits carrier flag all
+  pub front-refused : {fault : ℕ} → fault ≡ firstOf front → (fault ≡ 0 → ⊥)
+      → refusedTransport fault ≡ readBits carrier flag all
   front-refused e r = front-with refl refl refl e r
 
   pub kind-refused : firstOf front ≡ 0 → kind ≡ 0 → refusedTransport 21 ≡ readBits carrier flag all
@@ -347,10 +377,12 @@ module _ (carrier flag n : ℕ) (s : List ℕ) (h : n ≤ 8 * length s) {ack x�
 
 -- ---- n and the bits lent
 
-pub lent-refused : (carrier elements n : ℕ) (s : List ℕ) → leb n (8 * length s) ≡ false → refusedTransport 13 ≡ readOf carrier elements n s
+pub lent-refused : (carrier elements n : ℕ) (s : List ℕ) → leb n (8 * length s) ≡ false
+    → refusedTransport 13 ≡ readOf carrier elements n s
 unfolding readOf
 lent-refused carrier elements n s e = rw e refl
 
-pub lent-read : (carrier elements n : ℕ) (s : List ℕ) → leb n (8 * length s) ≡ true → readBits carrier (elements % 2) (sduBits n s) ≡ readOf carrier elements n s
+pub lent-read : (carrier elements n : ℕ) (s : List ℕ) → leb n (8 * length s) ≡ true
+    → readBits carrier (elements % 2) (sduBits n s) ≡ readOf carrier elements n s
 unfolding readOf readBits
 lent-read carrier elements n s e = rw e refl

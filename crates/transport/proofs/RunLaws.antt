@@ -8,12 +8,13 @@ use native.Mathlib.Omega.{arith}
 use lib.Dec.{eqb, ltb}
 use lib.ListN.{length, drop}
 use lib.Pow.{pow-pos}
-use borrow.Author.Tests.{lt-ltb, le-ltb, ltb-true, ltb-false, eqb-true}
+use borrow.Author.Tests.{lt-ltb, le-ltb, ltb-true, ltb-false}
 use Rattle.bits.proofs.Numbers.{num-take-lt, fits-in}
 use Rattle.bits.specs.Bits.{field}
 use Rattle.transport.specs.Layouts.{per, forwardWidth, Shape, shape, at}
-use Rattle.transport.specs.Elements.{whole, elementIn, addressedIn, kindInData, kindInStatus, kindIn, storageIn, endIn}
-use Rattle.transport.specs.Elements.{cut, runIn, frontOf, kindAt, fixedAt, storedAt}
+use Rattle.transport.specs.Elements.{whole, elementIn, addressedIn, kindInData, kindInStatus, kindIn}
+use Rattle.transport.specs.Elements.{storageIn, endIn}
+use Rattle.transport.specs.Runs.{cut, runIn, frontOf, kindAt, fixedAt, storedAt}
 use Rattle.transport.specs.declared.elements.Front.{Front}
 use Rattle.transport.specs.declared.elements.Fixed.{Fixed}
 use Rattle.transport.specs.declared.elements.Stored.{Stored}
@@ -146,7 +147,8 @@ module _ (ack : ℕ) (b : List Bool) where
   short-at : length b < p + 10 → kindAt (length b) p x ack ≡ 0
   unfolding kindAt kindInData
   short-at h =
-      rw (lt-ltb (length b) (p + 27) (omega arith), lt-ltb (length b) (p + 10) h) (no-kind (eqb (cut 43 4 x) 3) (eqb (cut 43 4 x) 4))
+      rw (lt-ltb (length b) (p + 27) (omega arith), lt-ltb (length b) (p + 10) h)
+      (no-kind (eqb (cut 43 4 x) 3) (eqb (cut 43 4 x) 4))
 
   short-in : length b < p + 10 → kindIn ack b ≡ 0
   unfolding kindIn kindInData
@@ -159,7 +161,8 @@ module _ (ack : ℕ) (b : List Bool) where
       ≡ kindInData (length b) (at 9 q) (elementIn 6 q b) (elementIn 7 q b) (elementIn 8 q b) ack
   unfolding kindInData
   data-when true t =
-      let h = ltb-true (length b) (p + 27) t in rw (lt-ltb (length b) (p + 27) h, lt-ltb (length b) (at 9 q) (omega arith)) refl
+      let h = ltb-true (length b) (p + 27) t in
+      rw (lt-ltb (length b) (p + 27) h, lt-ltb (length b) (at 9 q) (omega arith)) refl
   data-when false t =
       let h = ltb-false (length b) (p + 27) t in
       let e : p + 27 ≡ at 9 q = omega arith in
@@ -188,20 +191,18 @@ pub record Told (ack a k : ℕ) (b : List Bool) : Type 0 where
   pub data4 : 1 ≤ k → k ≤ 3 → sdtiAt ack a + 27 ≤ length b
   pub most : k ≤ 4
 
-type-le : (m : ℕ) (t₂ t₃ t₄ t₅ : Bool) → ltb 2 m ≡ t₄ → cond t₂ 0 (cond t₃ 0 (cond t₄ 0 (cond t₅ 0 (m + 1)))) ≤ 3
-type-le m true t₃ t₄ t₅ e = omega arith
-type-le m false true t₄ t₅ e = omega arith
-type-le m false false true t₅ e = omega arith
-type-le m false false false true e = omega arith
-type-le m false false false false e = let h = ltb-false 2 m e in omega arith
+type-le : (m : ℕ) (t₁ t₂ t₃ t₄ t₅ : Bool) → ltb 2 m ≡ t₄
+    → cond t₁ 0 (cond t₂ 0 (cond t₃ 0 (cond t₄ 0 (cond t₅ 0 (m + 1))))) ≤ 3
+type-le m true t₂ t₃ t₄ t₅ e = omega arith
+type-le m false true t₃ t₄ t₅ e = omega arith
+type-le m false false true t₄ t₅ e = omega arith
+type-le m false false false true t₅ e = omega arith
+type-le m false false false false true e = omega arith
+type-le m false false false false false e = let h = ltb-false 2 m e in omega arith
 
 data-le : (n e l r m ack : ℕ) → kindInData n e l r m ack ≤ 3
 unfolding kindInData
-data-le n e l r m ack = when (ltb n e)
-  where
-    when : (t : Bool) → cond t 0 (cond (ltb l 12) 0 (cond (ltb r 128) 0 (cond (ltb 2 m) 0 (cond (ltb m ack) 0 (m + 1))))) ≤ 3
-    when true = omega arith
-    when false = type-le m (ltb l 12) (ltb r 128) (ltb 2 m) (ltb m ack) refl
+data-le n e l r m ack = type-le m (ltb n e) (ltb l 12) (ltb r 128) (ltb 2 m) (ltb m ack) refl
 
 data-there : (n e l r m ack : ℕ) (t : Bool) → ltb n e ≡ t → 1 ≤ kindInData n e l r m ack → e ≤ n
 unfolding kindInData
@@ -212,7 +213,8 @@ status-le : (t : Bool) → (1 ≤ cond t 4 0 → 4 ≤ cond t 4 0) × (cond t 4 
 status-le true = (λ h. omega arith, omega arith)
 status-le false = (λ h. absurd (omega arith), omega arith)
 
-status-there : (place : ℕ) (b : List Bool) (t : Bool) → ltb (length b) (place + 6) ≡ t → 1 ≤ kindInStatus (whole place 6 b) → place + 6 ≤ length b
+status-there : (place : ℕ) (b : List Bool) (t : Bool) → ltb (length b) (place + 6) ≡ t
+    → 1 ≤ kindInStatus (whole place 6 b) → place + 6 ≤ length b
 status-there place b false t h = ltb-false (length b) (place + 6) t
 status-there place b true t h = absurd (let z : 1 ≤ 0 = rw t at h in omega arith)
 
@@ -235,7 +237,9 @@ told ack b =
     let r = elementIn 7 q b in
     let m = elementIn 8 q b in
     let w = elementIn 14 q' b in
-    told-when ack a (kindInData (length b) (at 9 q) l r m ack) (kindInStatus w) b (eqb (elementIn 5 q b) 3) (eqb (elementIn 5 q b) 4)
+    told-when ack a (kindInData (length b) (at 9 q) l r m ack) (kindInStatus w) b
+    (eqb (elementIn 5 q b) 3)
+    (eqb (elementIn 5 q b) 4)
     (data-le (length b) (at 9 q) l r m ack)
     (λ h. let g = data-there (length b) (at 9 q) l r m ack (ltb (length b) (at 9 q)) refl h in omega arith)
     (status-le (eqb w 31) .0)
@@ -267,8 +271,9 @@ fixed-is ack a (suc zero) t f b h l =
     let q = shape ack a 1 t f in
     let u = l .data4 h (omega arith) in
     let e = part-is p 47 32 11 {place = at 6 q} b (omega arith) (omega arith) (omega arith) in
+    let o : p + 15 ≡ at 7 q = omega arith in
     record {
-      end = ap (λ (y : ℕ). p + 15 + y) e ∙ ap (λ (y : ℕ). y + elementIn 6 q b) (omega arith);
+      end = λ i. o i + e i;
       storage = bit-is p 47 16 {place = at 13 (shape ack a 1 0 0)} b (omega arith) (omega arith);
       next = omega arith;
       rest = λ g. record {
@@ -285,8 +290,9 @@ fixed-is ack a (suc (suc zero)) t f b h l =
     let q = shape ack a 2 t f in
     let u = l .data4 h (omega arith) in
     let e = part-is p 47 32 11 {place = at 6 q} b (omega arith) (omega arith) (omega arith) in
+    let o : p + 15 ≡ at 7 q = omega arith in
     record {
-      end = ap (λ (y : ℕ). p + 15 + y) e ∙ ap (λ (y : ℕ). y + elementIn 6 q b) (omega arith);
+      end = λ i. o i + e i;
       storage = bit-is p 47 16 {place = at 13 (shape ack a 2 0 0)} b (omega arith) (omega arith);
       next = omega arith;
       rest = λ g. record {
@@ -303,8 +309,9 @@ fixed-is ack a (suc (suc (suc zero))) t f b h l =
     let q = shape ack a 3 t f in
     let u = l .data4 h (omega arith) in
     let e = part-is p 47 32 11 {place = at 6 q} b (omega arith) (omega arith) (omega arith) in
+    let o : p + 15 ≡ at 7 q = omega arith in
     record {
-      end = ap (λ (y : ℕ). p + 15 + y) e ∙ ap (λ (y : ℕ). y + elementIn 6 q b) (omega arith);
+      end = λ i. o i + e i;
       storage = no-bits (at 13 (shape ack a 3 0 0)) b;
       next = omega arith;
       rest = λ g. record {
@@ -367,7 +374,7 @@ stored-is ack a k (suc zero) f b h e =
     let q = shape ack a k 1 f in
     let p = at 17 q in
     let x = runIn p 56 b in
-    let w = forward-le f in
+    let few = forward-le f in
     let is : at 19 q ≤ length b → cut 48 3 x ≡ f =
     λ l. part-is p 56 48 3 {place = at 18 q} b (omega arith) (omega arith) (omega arith) ∙ sym e in
     record {
@@ -376,6 +383,8 @@ stored-is ack a k (suc zero) f b h e =
       forward = is;
       next = λ l. rw (is l) (omega arith);
       validity = λ l. part-is p 56 51 5 {place = at 17 q} b (omega arith) (omega arith) (omega arith);
-      address = λ l. rw (is (omega arith)) (part-is p 56 (48 - forwardWidth f) (forwardWidth f) {place = at 19 q} b (omega arith) (omega arith) l);
+      address = λ l.
+          let w = forwardWidth f in
+          rw (is (omega arith)) (part-is p 56 (48 - w) w {place = at 19 q} b (omega arith) (omega arith) l);
     }
 stored-is ack a k (suc (suc t)) f b h e = absurd (omega arith)

@@ -2,6 +2,7 @@
 -- EN 300 392-2, 29.4.2.
 pub mod Layouts
 pub mod Elements
+pub mod Runs
 pub mod Reading
 pub mod Building
 pub mod Well

@@ -4,7 +4,7 @@ ghost use Prim.Native.Nat.{_+_, _*_, _≤_, min};
 ghost use lib.ListN.{length, take};
 ghost use Rattle.bits.specs.Bits.{bitsOf};
 ghost use Rattle.transport.specs.Layouts.{ackOf, per, forwardWidth};
-ghost use Rattle.transport.specs.Elements.{cut, runIn, frontOf, fixedAt, storedAt};
+ghost use Rattle.transport.specs.Runs.{cut, runIn, frontOf, fixedAt, storedAt};
 
 // 1 for DM-SDS ACK.
 pub(crate) fn ack_of(carrier: u8) -> usize

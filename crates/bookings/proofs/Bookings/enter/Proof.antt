@@ -36,17 +36,19 @@ add-t17 c = search needs
 returns-2 : tie.Need-returns-2
 returns-2 c =
     let s = c .before in
-    let self = s .before .before .before .before .before .before .before .before .before .args .self in
+    let p = s .before .before .before in
+    let t = p .before .before in
+    let self = t .before .before .before .before .args .self in
     let n : self .count + 1 ≡ min 32 (self .count + 1) = omega arith in
-    let p = s .before .before .before .push .ensures in
-    entered-new self _ _ (s .before .before .before .before .before .before .is-in .ensures) (s .before .before .before .before .before .if1 .left) n p
+    entered-new self _ _ (t .before .is-in .ensures) (t .if1 .left) n (p .push .ensures)
 
 returns-3 : tie.Need-returns-3
 returns-3 c =
-    let self = c .before .before .before .before .before .before .before .before .before .args .self in
+    let p = c .before .before .before in
+    let t = p .before .before in
+    let self = t .before .before .before .before .args .self in
     let n : 32 ≡ min 32 (self .count + 1) = omega arith in
-    let p = c .before .before .before .push .ensures in
-    entered-new self _ _ (c .before .before .before .before .before .before .is-in .ensures) (c .before .before .before .before .before .if1 .left) n p
+    entered-new self _ _ (t .before .is-in .ensures) (t .if1 .left) n (p .push .ensures)
 
 pub enter-spec : {M : Type 1} → statement M
 enter-spec =

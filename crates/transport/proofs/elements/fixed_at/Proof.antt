@@ -1,6 +1,6 @@
 use native.Mathlib.Omega.{arith}
 use Rattle.bits.proofs.Tests.{tests}
-use Rattle.transport.specs.Elements.{fixedAt}
+use Rattle.transport.specs.Runs.{fixedAt}
 use borrow.Author.Needs.{needs}
 use Rattle.transport.proofs.elements.fixed_at.Statement.{statement}
 use Rattle.transport.proofs.elements.fixed_at.Tie as tie
@@ -34,7 +34,23 @@ add-t13 c = search needs
 
 returns : tie.Need-returns
 unfolding fixedAt
-returns c = (search (tests, ← c .part85 .ensures, ← c .before .part84 .ensures, ← c .before .before .before .part83 .ensures, ← c .before .before .before .before .part82 .ensures, ← c .before .before .before .before .before .storage-in .ensures .0, ← c .before .before .before .before .before .before .part8 .ensures, ← c .before .before .before .before .before .before .before .length-in .ensures .0), c .before .before .before .before .before .storage-in .ensures .1, c .before .before .before .before .before .before .before .length-in .ensures .1, omega arith, omega arith)
+returns c =
+    let p = c .before .before .before in (
+      search (
+        tests,
+        ← c .part85 .ensures,
+        ← c .before .part84 .ensures,
+        ← p .part83 .ensures,
+        ← p .before .part82 .ensures,
+        ← p .before .before .storage-in .ensures .0,
+        ← p .before .before .before .part8 .ensures,
+        ← p .before .before .before .before .length-in .ensures .0,
+      ),
+      p .before .before .storage-in .ensures .1,
+      p .before .before .before .before .length-in .ensures .1,
+      omega arith,
+      omega arith,
+    )
 
 add-t14 : tie.Need-add-t14
 add-t14 c = search needs
@@ -47,7 +63,22 @@ add-t16 c = search needs
 
 returns-2 : tie.Need-returns-2
 unfolding fixedAt
-returns-2 c = (search (tests, ← c .part86 .ensures, ← c .before .before .before .part83 .ensures, ← c .before .before .before .before .part82 .ensures, ← c .before .before .before .before .before .storage-in .ensures .0, ← c .before .before .before .before .before .before .part8 .ensures, ← c .before .before .before .before .before .before .before .length-in .ensures .0), c .before .before .before .before .before .storage-in .ensures .1, c .before .before .before .before .before .before .before .length-in .ensures .1, omega arith, omega arith)
+returns-2 c =
+    let p = c .before .before .before in (
+      search (
+        tests,
+        ← c .part86 .ensures,
+        ← p .part83 .ensures,
+        ← p .before .part82 .ensures,
+        ← p .before .before .storage-in .ensures .0,
+        ← p .before .before .before .part8 .ensures,
+        ← p .before .before .before .before .length-in .ensures .0,
+      ),
+      p .before .before .storage-in .ensures .1,
+      p .before .before .before .before .length-in .ensures .1,
+      omega arith,
+      omega arith,
+    )
 
 add-t17 : tie.Need-add-t17
 add-t17 c = search needs
@@ -57,7 +88,21 @@ add-t18 c = search needs
 
 returns-3 : tie.Need-returns-3
 unfolding fixedAt
-returns-3 c = (search (tests, ← c .before .before .before .part83 .ensures, ← c .before .before .before .before .part82 .ensures, ← c .before .before .before .before .before .storage-in .ensures .0, ← c .before .before .before .before .before .before .part8 .ensures, ← c .before .before .before .before .before .before .before .length-in .ensures .0), omega arith, c .before .before .before .before .before .before .before .length-in .ensures .1, omega arith, omega arith)
+returns-3 c =
+    let p = c .before .before .before in (
+      search (
+        tests,
+        ← p .part83 .ensures,
+        ← p .before .part82 .ensures,
+        ← p .before .before .storage-in .ensures .0,
+        ← p .before .before .before .part8 .ensures,
+        ← p .before .before .before .before .length-in .ensures .0,
+      ),
+      omega arith,
+      p .before .before .before .before .length-in .ensures .1,
+      omega arith,
+      omega arith,
+    )
 
 add-t19 : tie.Need-add-t19
 add-t19 c = search needs
@@ -73,7 +118,23 @@ add-t22 c = search needs
 
 returns-4 : tie.Need-returns-4
 unfolding fixedAt
-returns-4 c = (search (tests, ← c .part88 .ensures, ← c .before .part87 .ensures, ← c .before .before .before .before .before .part83 .ensures, ← c .before .before .before .before .before .before .part82 .ensures, ← c .before .before .before .before .before .before .before .storage-in .ensures .0, ← c .before .before .before .before .before .before .before .before .part8 .ensures, ← c .before .before .before .before .before .before .before .before .before .length-in .ensures .0), omega arith, omega arith, omega arith, omega arith)
+returns-4 c =
+    let p = c .before .before .before .before .before in (
+      search (
+        tests,
+        ← c .part88 .ensures,
+        ← c .before .part87 .ensures,
+        ← p .part83 .ensures,
+        ← p .before .part82 .ensures,
+        ← p .before .before .storage-in .ensures .0,
+        ← p .before .before .before .part8 .ensures,
+        ← p .before .before .before .before .length-in .ensures .0,
+      ),
+      omega arith,
+      omega arith,
+      omega arith,
+      omega arith,
+    )
 
 pub fixed-at-spec : {M : Type 1} → statement M
 fixed-at-spec =

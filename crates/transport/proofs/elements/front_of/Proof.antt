@@ -1,6 +1,6 @@
 use native.Mathlib.Omega.{arith}
 use Rattle.bits.proofs.Tests.{tests}
-use Rattle.transport.specs.Elements.{frontOf}
+use Rattle.transport.specs.Runs.{frontOf}
 use borrow.Author.Needs.{needs}
 use Rattle.transport.proofs.elements.front_of.Statement.{statement}
 use Rattle.transport.proofs.elements.front_of.Tie as tie
@@ -30,7 +30,17 @@ part32-requires-2 c κs = search needs
 
 returns-3 : tie.Need-returns-3
 unfolding frontOf
-returns-3 c = (search (tests, ← c .before .before .before .before .part82 .ensures, ← c .before .before .part83 .ensures, ← c .before .part32 .ensures, ← c .part322 .ensures), omega arith)
+returns-3 c =
+    let k = c .before .before in (
+      search (
+        tests,
+        ← k .before .before .part82 .ensures,
+        ← k .part83 .ensures,
+        ← c .before .part32 .ensures,
+        ← c .part322 .ensures,
+      ),
+      omega arith,
+    )
 
 pub front-of-spec : {M : Type 1} → statement M
 front-of-spec =

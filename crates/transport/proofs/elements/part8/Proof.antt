@@ -8,7 +8,9 @@ part-requires : tie.Need-part-requires
 part-requires c κs = search needs
 
 cast-result : tie.Need-cast-result
-cast-result c = let a = c .before .args in rw (c .part .ensures) (record { fits = fits-in 8 (cut-lt (a .after) (a .w) (a .x)) (search needs) })
+cast-result c =
+    let a = c .before .args in
+    rw (c .part .ensures) (record { fits = fits-in 8 (cut-lt (a .after) (a .w) (a .x)) (search needs) })
 
 returns : tie.Need-returns
 returns c = search needs

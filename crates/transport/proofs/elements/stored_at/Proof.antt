@@ -1,6 +1,6 @@
 use native.Mathlib.Omega.{arith}
 use Rattle.bits.proofs.Tests.{tests}
-use Rattle.transport.specs.Elements.{storedAt}
+use Rattle.transport.specs.Runs.{storedAt}
 use Rattle.transport.proofs.ElementLaws.{forward-le-of, stored-code}
 use Rattle.bits.specs.Bits.{bitsOf}
 use lib.ListN.{take}
@@ -25,10 +25,16 @@ part8-requires-2 : tie.Need-part8-requires-2
 part8-requires-2 c κs = search needs
 
 sub-part : tie.Need-sub-part
-sub-part c = let l = forward-le-of (c .before .before .part8 .result) (c .before .forward-width .ensures) in omega arith
+sub-part c =
+    let w = c .before in
+    let l = forward-le-of (w .before .part8 .result) (w .forward-width .ensures) in
+    omega arith
 
 part-requires : tie.Need-part-requires
-part-requires c κs = let l = forward-le-of (c .before .before .part8 .result) (c .before .forward-width .ensures) in omega arith
+part-requires c κs =
+    let w = c .before in
+    let l = forward-le-of (w .before .part8 .result) (w .forward-width .ensures) in
+    omega arith
 
 add-t12 : tie.Need-add-t12
 add-t12 c = search needs
@@ -37,10 +43,21 @@ add-t13 : tie.Need-add-t13
 add-t13 c = search needs
 
 add-t14 : tie.Need-add-t14
-add-t14 c = let l = forward-le-of (c .before .before .before .part8 .result) (c .before .before .forward-width .ensures) in omega arith
+add-t14 c =
+    let w = c .before .before in
+    let l = forward-le-of (w .before .part8 .result) (w .forward-width .ensures) in
+    omega arith
 
 returns-2 : tie.Need-returns-2
-returns-2 c = let a = c .before .before .before .before .before .before .before .args in let l = forward-le-of (c .before .before .before .part8 .result) (c .before .before .forward-width .ensures) in (stored-code (a .at) (a .storage) (take (a .n) (bitsOf (a .s .now))) (c .before .before .before .before .before .if1 .left) (c .before .before .before .before .run .ensures) (c .before .before .before .part8 .ensures) (c .before .before .forward-width .ensures) (c .before .part82 .ensures) (c .part .ensures), omega arith)
+returns-2 c =
+    let w = c .before .before in
+    let r = w .before .before in
+    let a = r .before .before .before .args in
+    let l = forward-le-of (w .before .part8 .result) (w .forward-width .ensures) in
+    let eq =
+    stored-code (a .at) (a .storage) (take (a .n) (bitsOf (a .s .now))) (r .before .if1 .left) (r .run .ensures)
+    (w .before .part8 .ensures) (w .forward-width .ensures) (c .before .part82 .ensures) (c .part .ensures) in
+    (eq, omega arith)
 
 pub stored-at-spec : {M : Type 1} → statement M
 stored-at-spec =

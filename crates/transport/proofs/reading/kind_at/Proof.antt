@@ -1,5 +1,5 @@
 use Rattle.bits.proofs.Tests.{tests}
-use Rattle.transport.specs.Elements.{kindAt}
+use Rattle.transport.specs.Runs.{kindAt}
 use borrow.Author.Needs.{needs}
 use Rattle.transport.proofs.reading.kind_at.Statement.{statement}
 use Rattle.transport.proofs.reading.kind_at.Tie as tie
@@ -24,7 +24,16 @@ kind-in-data-requires c κs = search needs
 
 returns : tie.Need-returns
 unfolding kindAt
-returns c = search (tests, c .kind-in-data .ensures .0, ← c .before .part83 .ensures, ← c .before .before .part82 .ensures, ← c .before .before .before .length-in .ensures .0, ← c .before .before .before .before .before .part8 .ensures)
+returns c =
+    let l = c .before .before .before in
+    search (
+      tests,
+      c .kind-in-data .ensures .0,
+      ← c .before .part83 .ensures,
+      ← c .before .before .part82 .ensures,
+      ← l .length-in .ensures .0,
+      ← l .before .before .part8 .ensures,
+    )
 
 returns-2 : tie.Need-returns-2
 unfolding kindAt
@@ -42,11 +51,13 @@ part8-requires-4 c κs = search needs
 
 returns-4 : tie.Need-returns-4
 unfolding kindAt
-returns-4 c = search (tests, ← c .before .before .before .before .before .part8 .ensures, ← c .before .part84 .ensures)
+returns-4 c =
+    search (tests, ← c .before .before .before .before .before .part8 .ensures, ← c .before .part84 .ensures)
 
 returns-5 : tie.Need-returns-5
 unfolding kindAt
-returns-5 c = search (tests, ← c .before .before .before .before .before .part8 .ensures, ← c .before .part84 .ensures)
+returns-5 c =
+    search (tests, ← c .before .before .before .before .before .part8 .ensures, ← c .before .part84 .ensures)
 
 pub kind-at-spec : {M : Type 1} → statement M
 kind-at-spec =

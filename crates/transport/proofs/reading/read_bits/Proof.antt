@@ -22,7 +22,13 @@ refused-requires : tie.Need-refused-requires
 refused-requires c κs = search needs
 
 returns : tie.Need-returns
-returns c = c .refused .ensures ∙ front-refused (c .before .before .before .before .before .before .before .args .carrier) (c .before .before .before .before .before .before .before .args .flag) (c .before .before .before .before .before .before .before .args .n) (c .before .before .before .before .before .before .before .args .s .now) (c .before .before .before .before .before .before .before .pre .0) (c .before .before .before .before .before .ack-of .ensures) (c .before .before .before .before .run .ensures) (c .before .before .before .front-of .ensures .0) refl refl (c .before .before .front-rules .ensures) (c .before .if1 .taken)
+returns c =
+    let f = c .before .before in
+    let s = f .before .before .before .before .before in
+    c .refused .ensures
+    ∙ front-refused (s .args .carrier) (s .args .flag) (s .args .n) (s .args .s .now) (s .pre .0)
+    (f .before .before .before .ack-of .ensures) (f .before .before .run .ensures) (f .before .front-of .ensures .0)
+    refl refl (f .front-rules .ensures) (c .before .if1 .taken)
 
 run-requires-2 : tie.Need-run-requires-2
 run-requires-2 c κs = search needs
@@ -34,7 +40,15 @@ refused-requires-2 : tie.Need-refused-requires-2
 refused-requires-2 c κs = search needs
 
 returns-2 : tie.Need-returns-2
-returns-2 c = c .refused2 .ensures ∙ kind-refused (c .before .before .before .before .before .before .before .before .before .before .args .carrier) (c .before .before .before .before .before .before .before .before .before .before .args .flag) (c .before .before .before .before .before .before .before .before .before .before .args .n) (c .before .before .before .before .before .before .before .before .before .before .args .s .now) (c .before .before .before .before .before .before .before .before .before .before .pre .0) (c .before .before .before .before .before .before .before .before .ack-of .ensures) (c .before .before .before .before .before .before .before .run .ensures) (c .before .before .before .before .before .before .front-of .ensures .0) (c .before .before .before .run2 .ensures) (c .before .before .kind-at .ensures) (sym (c .before .before .before .before .before .front-rules .ensures) ∙ (c .before .before .before .before .if1 .left)) (c .before .if2 .taken)
+returns-2 c =
+    let k = c .before .before in
+    let f = k .before .before .before in
+    let s = f .before .before .before .before .before in
+    c .refused2 .ensures
+    ∙ kind-refused (s .args .carrier) (s .args .flag) (s .args .n) (s .args .s .now) (s .pre .0)
+    (f .before .before .before .ack-of .ensures) (f .before .before .run .ensures) (f .before .front-of .ensures .0)
+    (k .before .run2 .ensures) (k .kind-at .ensures) (sym (f .front-rules .ensures) ∙ k .before .before .if1 .left)
+    (c .before .if2 .taken)
 
 fixed-at-requires : tie.Need-fixed-at-requires
 fixed-at-requires c κs = search needs
@@ -46,25 +60,61 @@ per-requires : tie.Need-per-requires
 per-requires c κs = search needs
 
 add-end : tie.Need-add-end
-add-end c = let l = end-le (c .before .before .before .before .before .kind-at .result) (c .before .before .before .fixed-at .result .length) (c .before .per .ensures) (c .before .before .before .fixed-at .ensures .2) in omega (arith, (c .before .before .before .fixed-at .ensures .3), (c .before .before .before .before .before .before .before .before .before .front-of .ensures .1), c .before .before .before .before .before .before .before .before .before .before .before .before .before .pre)
+add-end c =
+    let g = c .before .before .before in
+    let k = g .before .before in
+    let f = k .before .before .before .before in
+    let l = end-le (k .kind-at .result) (g .fixed-at .result .length) (c .before .per .ensures)
+    (g .fixed-at .ensures .2) in
+    omega (arith, g .fixed-at .ensures .3, f .front-of .ensures .1, f .before .before .before .before .pre)
 
 forward-holds-requires : tie.Need-forward-holds-requires
 forward-holds-requires c κs = search needs
 
 fcs-holds-requires : tie.Need-fcs-holds-requires
-fcs-holds-requires c κs = let l = end-le (c .before .before .before .before .before .before .kind-at .result) (c .before .before .before .before .fixed-at .result .length) (c .before .before .per .ensures) (c .before .before .before .before .fixed-at .ensures .2) in omega (arith, (c .before .before .before .before .fixed-at .ensures .3), (c .before .before .before .before .before .before .before .before .before .before .front-of .ensures .1), c .before .before .before .before .before .before .before .before .before .before .before .before .before .before .pre)
+fcs-holds-requires c κs =
+    let g = c .before .before .before .before in
+    let k = g .before .before in
+    let f = k .before .before .before .before in
+    let l = end-le (k .kind-at .result) (g .fixed-at .result .length) (c .before .before .per .ensures)
+    (g .fixed-at .ensures .2) in
+    omega (arith, g .fixed-at .ensures .3, f .front-of .ensures .1, f .before .before .before .before .pre)
 
 end-rules-requires : tie.Need-end-rules-requires
-end-rules-requires c κs = let l = end-le (c .before .before .before .before .before .before .before .kind-at .result) (c .before .before .before .before .before .fixed-at .result .length) (c .before .before .before .per .ensures) (c .before .before .before .before .before .fixed-at .ensures .2) in omega (arith, (c .before .before .before .before .before .fixed-at .ensures .3), (c .before .before .before .before .before .before .before .before .before .before .before .front-of .ensures .1), c .before .before .before .before .before .before .before .before .before .before .before .before .before .before .before .pre)
+end-rules-requires c κs =
+    let g = c .before .before .before .before .before in
+    let k = g .before .before in
+    let f = k .before .before .before .before in
+    let l = end-le (k .kind-at .result) (g .fixed-at .result .length) (c .before .before .before .per .ensures)
+    (g .fixed-at .ensures .2) in
+    omega (arith, g .fixed-at .ensures .3, f .front-of .ensures .1, f .before .before .before .before .pre)
 
 refused-requires-3 : tie.Need-refused-requires-3
 refused-requires-3 c κs = search needs
 
 returns-3 : tie.Need-returns-3
-returns-3 c = c .refused3 .ensures ∙ last-refused (c .before .before .before .before .before .before .before .before .before .before .before .before .before .before .before .before .before .before .args .carrier) (c .before .before .before .before .before .before .before .before .before .before .before .before .before .before .before .before .before .before .args .flag) (c .before .before .before .before .before .before .before .before .before .before .before .before .before .before .before .before .before .before .args .n) (c .before .before .before .before .before .before .before .before .before .before .before .before .before .before .before .before .before .before .args .s .now) (c .before .before .before .before .before .before .before .before .before .before .before .before .before .before .before .before .before .before .pre .0) (c .before .before .before .before .before .before .before .before .before .before .before .before .before .before .before .before .ack-of .ensures) (c .before .before .before .before .before .before .before .before .before .before .before .before .before .before .before .run .ensures) (c .before .before .before .before .before .before .before .before .before .before .before .before .before .before .front-of .ensures .0) (c .before .before .before .before .before .before .before .before .before .before .before .run2 .ensures) (c .before .before .before .before .before .before .before .before .before .before .kind-at .ensures) (c .before .before .before .before .before .before .before .before .fixed-at .ensures .0) (c .before .before .before .before .before .before .before .stored-at .ensures .0) (ap (λ (w : ℕ). c .before .before .before .before .before .before .before .before .fixed-at .result .from + w) (c .before .before .before .before .before .before .per .ensures)) (sym (c .before .before .before .before .before .before .before .before .before .before .before .before .before .front-rules .ensures) ∙ (c .before .before .before .before .before .before .before .before .before .before .before .before .if1 .left)) (c .before .before .before .before .before .before .before .before .before .if2 .left) (c .before .before .before .before .forward-holds .ensures) (c .before .before .before .fcs-holds .ensures) (c .before .before .end-rules .ensures) (c .before .if3 .taken)
+returns-3 c =
+    let u = c .before .before in
+    let g = u .before .before .before .before .before .before in
+    let k = g .before .before in
+    let f = k .before .before .before in
+    let s = f .before .before .before .before .before in
+    c .refused3 .ensures
+    ∙ last-refused (s .args .carrier) (s .args .flag) (s .args .n) (s .args .s .now) (s .pre .0)
+    (f .before .before .before .ack-of .ensures) (f .before .before .run .ensures) (f .before .front-of .ensures .0)
+    (k .before .run2 .ensures) (k .kind-at .ensures) (g .fixed-at .ensures .0)
+    (u .before .before .before .before .before .stored-at .ensures .0)
+    (ap (λ (w : ℕ). g .fixed-at .result .from + w) (u .before .before .before .before .per .ensures))
+    (sym (f .front-rules .ensures) ∙ k .before .before .if1 .left) (g .before .if2 .left)
+    (u .before .before .forward-holds .ensures) (u .before .fcs-holds .ensures) (u .end-rules .ensures)
+    (c .before .if3 .taken)
 
 sub-rest : tie.Need-sub-rest
-sub-rest c = end-fits (c .before .before .before .forward-holds .result) (c .before .before .fcs-holds .result) (c .before .before .before .before .before .before .stored-at .result .next) _ _ _ (c .before .end-rules .ensures) (c .if3 .left)
+sub-rest c =
+    let u = c .before in
+    let t = u .before .before .before .before .before .stored-at .result in
+    end-fits (u .before .before .forward-holds .result) (u .before .fcs-holds .result) (t .next) _ _ _
+    (u .end-rules .ensures) (c .if3 .left)
 
 per-requires-2 : tie.Need-per-requires-2
 per-requires-2 c κs = search needs
@@ -73,7 +123,21 @@ per-requires-3 : tie.Need-per-requires-3
 per-requires-3 c κs = search needs
 
 returns-4 : tie.Need-returns-4
-returns-4 c = rw (c .before .per2 .ensures, c .per3 .ensures) (last-found (c .before .before .before .before .before .before .before .before .before .before .before .before .before .before .before .before .before .before .before .args .carrier) (c .before .before .before .before .before .before .before .before .before .before .before .before .before .before .before .before .before .before .before .args .flag) (c .before .before .before .before .before .before .before .before .before .before .before .before .before .before .before .before .before .before .before .args .n) (c .before .before .before .before .before .before .before .before .before .before .before .before .before .before .before .before .before .before .before .args .s .now) (c .before .before .before .before .before .before .before .before .before .before .before .before .before .before .before .before .before .before .before .pre .0) (c .before .before .before .before .before .before .before .before .before .before .before .before .before .before .before .before .before .ack-of .ensures) (c .before .before .before .before .before .before .before .before .before .before .before .before .before .before .before .before .run .ensures) (c .before .before .before .before .before .before .before .before .before .before .before .before .before .before .before .front-of .ensures .0) (c .before .before .before .before .before .before .before .before .before .before .before .before .run2 .ensures) (c .before .before .before .before .before .before .before .before .before .before .before .kind-at .ensures) (c .before .before .before .before .before .before .before .before .before .fixed-at .ensures .0) (c .before .before .before .before .before .before .before .before .stored-at .ensures .0) (ap (λ (w : ℕ). c .before .before .before .before .before .before .before .before .before .fixed-at .result .from + w) (c .before .before .before .before .before .before .before .per .ensures)) (sym (c .before .before .before .before .before .before .before .before .before .before .before .before .before .before .front-rules .ensures) ∙ (c .before .before .before .before .before .before .before .before .before .before .before .before .before .if1 .left)) (c .before .before .before .before .before .before .before .before .before .before .if2 .left) (c .before .before .before .before .before .forward-holds .ensures) (c .before .before .before .before .fcs-holds .ensures) (c .before .before .before .end-rules .ensures) (c .before .before .if3 .left))
+returns-4 c =
+    let u = c .before .before .before in
+    let g = u .before .before .before .before .before .before in
+    let k = g .before .before in
+    let f = k .before .before .before in
+    let s = f .before .before .before .before .before in
+    rw (c .before .per2 .ensures, c .per3 .ensures)
+    (last-found (s .args .carrier) (s .args .flag) (s .args .n) (s .args .s .now) (s .pre .0)
+    (f .before .before .before .ack-of .ensures) (f .before .before .run .ensures) (f .before .front-of .ensures .0)
+    (k .before .run2 .ensures) (k .kind-at .ensures) (g .fixed-at .ensures .0)
+    (u .before .before .before .before .before .stored-at .ensures .0)
+    (ap (λ (w : ℕ). g .fixed-at .result .from + w) (u .before .before .before .before .per .ensures))
+    (sym (f .front-rules .ensures) ∙ k .before .before .if1 .left) (g .before .if2 .left)
+    (u .before .before .forward-holds .ensures) (u .before .fcs-holds .ensures) (u .end-rules .ensures)
+    (c .before .before .if3 .left))
 
 pub read-bits-spec : {M : Type 1} → statement M
 read-bits-spec =
