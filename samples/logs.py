@@ -5,9 +5,11 @@ logs.py            write the files
 logs.py --check    exit 1, and say where, if a stored file is not the one that this makes, or if a program prints something else
 
 What is printed was worked out by hand. The second program has to print the same, and with --check the proved printer too. june.calls has the
-reports of june.log as call records, for `probe`, which also shows the message; june.calls.txt is what it prints.
+reports of june.log as call records, for `probe`, which also shows the message, and the calls in which the story goes
+on; june.calls.txt is what `probe` prints for them.
 """
 import inspect
+import itertools
 import os
 import sys
 
@@ -17,11 +19,11 @@ from stories import second
 HERE = os.path.dirname(os.path.abspath(__file__))
 
 
-def table(log):
-    """The rows of a story; three or more in turn with the same words take one line."""
-    yield "| line | printed | what was heard |"
+def table(rows, line=1, heading="what was heard"):
+    """The rows of a story, from this line on; three or more in turn with the same words take one line."""
+    yield "| line | printed | %s |" % heading
     yield "|---|---|---|"
-    line, rows = 1, [(printed, words) for _, printed, words in log.rows]
+    rows = [(printed, words) for _, printed, words in rows]
     while rows:
         (printed, words), alike = rows[0], 1
         while printed and alike < len(rows) and rows[alike][1] == words:
@@ -38,11 +40,23 @@ def table(log):
         rows = rows[alike:]
 
 
-def story(name, log):
-    title, _, rest = inspect.getdoc(stories.LOGS[name]).partition("\n")
+def told(tell):
+    """The title of a story, and what is said before its rows and after them."""
+    title, _, rest = inspect.getdoc(tell).partition("\n")
     before, _, after = rest.strip().partition("\n\n---\n\n")
+    return title, before, after
+
+
+def story(name, log):
+    title, before, after = told(stories.LOGS[name])
     shown = "`%s.log` prints `%s.txt`: `./print-log samples/%s.log`. A line is frame, slot, outcome, dropped, fault, bits (docs/READING-THE-LOG.md)." % (name, name, name)
-    return "\n".join(["# " + title, "", before, "", shown, ""] + list(table(log)) + ["", after, ""])
+    return "\n".join(["# " + title, "", before, "", shown, ""] + list(table(log.rows)) + ["", after, ""])
+
+
+def goes_on(tell, line):
+    title, before, after = told(tell)
+    rows = [(data, without_bytes(printed), words) for data, printed, words in tell().rows]
+    return "\n".join(["", "## " + title, "", before, ""] + list(table(rows, line, "what it says")) + ["", after, ""])
 
 
 def calls(log):
@@ -51,13 +65,34 @@ def calls(log):
     return log.start + b"".join(second.record(4, data[4:6] + data[2:3] + (512).to_bytes(2, "little") + data[6:]) for data in reports)
 
 
+def without_bytes(line):
+    """A line with `..` for its bytes, which stand before its last word."""
+    words = line.split()
+    shows = len(words) > 2 and words[0] in ("sdu", "build", "report") and words[-2] != "-"
+    return " ".join(words[:-2] + [".."] + words[-1:]) if shows else line
+
+
+def calls_and_lines(name, log):
+    """The calls of a story, what is printed for them, and the line with which it goes on; from there on as by hand."""
+    first, rows = calls(log), stories.CALLS[name]().rows
+    given = first + b"".join(data for data, _, _ in rows)
+    printed = second.run("probe", given=given)
+    at = len(second.records(first))
+    both = itertools.zip_longest(second.lines(printed)[at:], [by_hand for _, by_hand, _ in rows], fillvalue="")
+    for number, (line, by_hand) in enumerate(both, at + 1):
+        if by_hand not in (line, without_bytes(line)):
+            sys.exit("logs: line %d of %s.calls\n  by hand: %s\n  second:  %s" % (number, name, by_hand, line))
+    return given, printed, at + 1
+
+
 def made():
     files = {}
     for name, tell in stories.LOGS.items():
         log = tell()
         files[name + ".log"], files[name + ".txt"], files[name + ".md"] = log.data(), log.text().encode("ascii"), story(name, log).encode("utf-8")
-    given = calls(stories.june())
-    files["june.calls"], files["june.calls.txt"] = given, second.run("probe", given=given)
+    for name, tell in stories.CALLS.items():
+        files[name + ".calls"], files[name + ".calls.txt"], line = calls_and_lines(name, stories.LOGS[name]())
+        files[name + ".md"] += goes_on(tell, line).encode("utf-8")
     return files
 
 
@@ -69,7 +104,8 @@ def runs(files):
         if sys.argv[1:]:
             yield "the printer", name + ".log", second.run_printer(given), text
     if sys.argv[1:]:
-        yield "probe", "june.calls", second.run_probe(files["june.calls"]), files["june.calls.txt"]
+        for name in stories.CALLS:
+            yield "probe", name + ".calls", second.run_probe(files[name + ".calls"]), files[name + ".calls.txt"]
 
 
 def first_difference(one, other):

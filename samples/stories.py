@@ -1,6 +1,6 @@
 """What the units heard, story by story: the reports of each sample log, and beside each what it is answered, worked out by hand.
 
-An answer is outcome, dropped, fault and bits, as printed after frame and slot.
+An answer is outcome, dropped, fault and bits, as printed after frame and slot. One story goes on in calls of `probe`.
 """
 import os
 import sys
@@ -12,6 +12,9 @@ DESK, SITES, NETWORK = 5001, 900, 901  # the unit at the hire desk, the group of
 OTHER_DESK, CAGE_2, CAGE_3 = 5002, 7, 8
 # DM-SDS DATA (23) and DM-SDS ACK (24), with the width and the number of their elements.
 DATA, ACK = dict(message=23, width=8, elements=0b1001_0_01_0), dict(message=24, width=1, elements=0)
+
+# DM-SDS DATA with a check sequence at its end: the last bit of the elements tells of it.
+CHECKED = dict(DATA, elements=DATA["elements"] + 1)
 
 OPENS, KEPT, NOTHING, LOST = "3 0 0 0", "4 0 0 0", "0 0 0 0", "0 1 0 0"
 
@@ -78,6 +81,71 @@ class Log:
         return "".join(printed + "\n" for _, printed, _ in self.rows if printed is not None)
 
 
+# The fixed part of the body of a transport message's build, number by number.
+TRANSPORT = [("message", 1), ("fcs", 1), ("addressed", 1), ("caller_mni", 4), ("caller", 4), ("kind", 1),
+             ("protocol", 1), ("request", 1), ("short", 1), ("required", 1), ("storage", 1), ("status", 1),
+             ("reference", 1), ("validity", 1), ("forward_type", 1), ("forward", 8), ("n", 4), ("lent", 2)]
+
+
+def little(n, size):
+    return n.to_bytes(size, "little")
+
+
+def came(message):
+    """A message with what it came with: message type and elements, its number of bits, its bytes."""
+    data, n = message
+    return little(CHECKED["message"], 1) + little(CHECKED["elements"], 8) + little(n, 4) + data
+
+
+class Calls:
+    """Calls of `probe`, one after another. A row is a record, what is printed for it (`..` for bytes), and words."""
+
+    def __init__(self):
+        self.rows = []
+
+    def call(self, kind, body, printed, words):
+        self.rows.append((second.record(kind, body), printed, words))
+
+    def answer(self):
+        """The words that are printed for the last call, where that does not hang on those before it."""
+        return second.lines(second.run("probe", given=self.rows[-1][0]))[0].split()
+
+    def unit(self, individual, words):
+        self.call(0, b"".join(little(n, 4) for n in (individual, SITES, NETWORK)), "unit 0", words)
+
+    def transfer(self, text, reference, bits, words):
+        """An SDS-TRANSFER with this text and a check sequence: its bytes, and its number of bits."""
+        text = text.encode("ascii")
+        numbers = dict(message=CHECKED["message"], fcs=1, kind=1, protocol=200, reference=reference)
+        numbers.update(n=8 * len(text), lent=1024)
+        body = b"".join(little(numbers.get(name, 0), size) for name, size in TRANSPORT)
+        self.call(10, body + text, "sdu 0 %d .. 1" % bits, words)
+        return bytes.fromhex(self.answer()[3]), bits
+
+    def laid_out(self, message, to, source, place, words):
+        """The header of a message for this slot, and its blocks, two of them."""
+        data, n = message
+        fields = dict(system=13, usage=0, to_type=0, to=to, from_type=0, source=source, mni=NETWORK, **CHECKED)
+        build = second.build_record(data, slot=place[1] - 1, frame=place[0], countdown=0, n=n, lent=1024, **fields)
+        self.call(5, build[4:], "build 0 2 .. 1", words)
+        run = bytes.fromhex(self.answer()[3])
+        return [run[:24], run[24:58], run[58:]]
+
+    def report(self, place, heard, numbers, words):
+        """A report of a header, of a block or of nothing, with a buffer of 512 bytes."""
+        kind = {0: 1, 24: 2, 34: 3}[len(heard)]
+        self.call(4, bytes([*place, kind]) + little(512, 2) + heard, "report " + numbers, words)
+
+    def read(self, message, numbers, words):
+        self.call(9, came(message), "transport " + numbers, words)
+
+    def bookings(self, words):
+        self.call(11, b"", "bookings", words)
+
+    def book(self, source, message, numbers, words):
+        self.call(12, little(source, 4) + came(message), "book " + numbers, words)
+
+
 def june():
     """June: an answer over frame 18
 
@@ -123,6 +191,87 @@ def june():
     log.nothing()
     log.block(again, 3, joined(again.text), "the second answer is handed over: bill 119 for the hire of bill 118")
     return log
+
+
+def june_goes_on():
+    """June goes on: the hire is booked once
+
+    Cage 2 took the hire that was sent again for a new one. It need not: a hire is a transfer, a message of the
+    transport layer, and has a reference, a number that its sender gives it and that stays the same when the hire is
+    sent again. A cage that keeps the last 32 pairs of sender and reference that it booked can tell.
+
+    `./probe` shows such a cage: it makes the calls of `june.calls` and prints `june.calls.txt`, a line for each. Its
+    lines 1 to 37 are the desk's settings and the reports above, each with the message that is handed over. From line
+    38 on the desk makes its hire, and cage 2 hears it twice. `..` stands for the bytes of a line. The slots between
+    the two hires, in which cage 2 heard nothing, are left out.
+
+    ---
+
+    The numbers after `book` are fault, mark, kind and reference. Mark 1 is booked, 2 is again, 0 is nothing to book.
+    What the numbers of the other lines are stands at the top of `crates/probe/src/main.rt`.
+
+    One hire, one bill: where the mark is 2, the cage answers with bill 118 once more and writes no bill 119. In which
+    frames the hire came does not matter, only who sent it and its reference. When 32 other pairs have been booked
+    since, the first is out of the list, oldest first; the same hire would then be booked again.
+    """
+    calls = Calls()
+    hire = calls.transfer(
+        "Hire 4711: hammer kit 12, drill kit 3, tunnel 5", 93, 448,
+        "the desk makes hire 4711 a transfer with reference 93: no fault, 448 bits. 40 of them say what it is, 376 are "
+        "its 47 characters, and the last 32 are a check sequence over all the others")
+    nothing = " 0 0 0 0 0 0 0 0 0 0 0 - 1"
+    whole = "2 0 0 448 0 7 0 5001 901 23 8 147 %s 1" % hire[0].hex()
+
+    def sent(frame, words, repeated):
+        """What goes out: the headers in slots 1 and 3 of a frame, a block in slot 1 of each of the next two."""
+        header, first, last = calls.laid_out(hire, CAGE_2, DESK, (frame, 1), words)
+        repeat = calls.laid_out(hire, CAGE_2, DESK, (frame, 3), repeated)[0]
+        after = [(frame + 1, 1, first), (frame + 1, 3, b""), (frame + 2, 1, last)]
+        return [(frame, 1, header), (frame, 3, repeat)] + after
+
+    def heard(slots, *words):
+        answers = ["3" + nothing, "3" + nothing, "4" + nothing, "0" + nothing, whole]
+        for (frame, slot, block), numbers, said in zip(slots, answers, words):
+            calls.report((frame, slot), block, numbers, said)
+
+    slots = sent(9, "it is laid out for slot 1 of frame 9: a header, and the two blocks that follow it",
+                 "and for slot 3: a header names the slot that it goes out in, so each is built by itself")
+    calls.unit(CAGE_2, "from here on it is cage 2's unit that hears")
+    calls.bookings("its list of what it has booked is empty")
+    heard(slots, "frame 9, slot 1: the header of the hire; an assembly is open",
+          "slot 3: the header again",
+          "frame 10, slot 1: the first block, kept",
+          "slot 3: nothing was heard",
+          "frame 11, slot 1: the last block. The hire is handed over, 448 bits, just those that the desk made. It is "
+          "for 7, cage 2, and comes from 5001, the desk")
+    calls.read(hire, "0 1 0 0 0 200 0 0 0 0 0 93 0 0 0 40 376",
+               "what cage 2 reads in it. No fault: the check sequence is right. 1 is a transfer, 93 its reference; its "
+               "text begins at bit 40 and has 376 bits")
+    calls.book(DESK, hire, "0 1 1 93",
+               "**booked:** sender 5001 with reference 93 is new. Cage 2 writes bill 118, and answers in frame 16 (line "
+               "2 above)")
+    slots = sent(6, "the unit of June lost the answer, so the desk sends the hire again (lines 13 to 29 above): the "
+                 "same transfer, laid out for slot 1 of frame 6", "and for slot 3")
+    heard(slots, "frame 6, slot 1: its header",
+          "slot 3: the header again",
+          "frame 7, slot 1: the first block",
+          "slot 3: nothing was heard",
+          "frame 8, slot 1: the hire has come a second time, as whole as the first")
+    calls.book(DESK, hire, "0 2 1 93",
+               "**again:** sender 5001 with reference 93 is among the last 32 booked. It is not booked, and there is "
+               "no second bill")
+    data, n = hire
+    calls.book(DESK, (data[:20] + bytes([data[20] ^ 1]) + data[21:], n), "21 0 0 0",
+               "the hire with one bit turned on the way: fault 21, the check sequence is wrong. Nothing is booked, and "
+               "nothing that was booked is forgotten")
+    other = calls.transfer("Hire 4712: hammer kit 9, tunnel 5", 94, 336,
+                           "the desk's next hire, 4712: a transfer with reference 94")
+    calls.book(DESK, other, "0 1 1 94", "booked: the sender is the same, the reference is not")
+    calls.book(OTHER_DESK, hire, "0 1 1 93",
+               "booked: the other desk, 5002, has a hire with reference 93 too. The reference is the same, the sender "
+               "is not")
+    calls.book(DESK, hire, "0 2 1 93", "hire 4711 from the desk once more: again, as before")
+    return calls
 
 
 def second_cage():
@@ -342,5 +491,7 @@ def no_unit():
     return log
 
 
+# The stories that go on in calls.
+CALLS = {"june": june_goes_on}
 LOGS = {"june": june, "second-cage": second_cage, "missed-block": missed_block, "copies": copies, "goes-back": goes_back,
         "copy-18-later": copy_18_later, "damaged": damaged, "no-unit": no_unit}
