@@ -27,16 +27,14 @@
 //    12 book               source 4, message type 1, elements 8, n 4, message: the rest
 //         book FAULT MARK KIND REFERENCE
 // Settings make the receiver a fresh one, and so does the start, with three zeros; a report goes to the receiver that the record before left.
-// Kind 11 makes the bookings fresh ones, and so does the start; kind 12 goes to the bookings that the record before
-// left.
+// Kind 11 makes the bookings fresh ones, and so does the start; kind 12 books in those that the record before left.
 // The buffer of a report and the output of a build are filled with 5A (hexadecimal) before the call. HEX is what was written, two lower case
 // digits for each byte: the first (BITS + 7) / 8 of the buffer or of the output of kind 10, 24 + 34 K of the output of
 // kind 5; `-` for none. REST is 1 if every later byte is still 5A, else 0.
 // KIND is 1 transfer, 2 report, 3 ack, 4 short report, 0 refused. ADDRESSED is 1 with a calling party, whose MNI and SSI
 // are CMNI and CSSI. STATUS is the delivery status, of a short report its type. FADDRESS is the forward address as one
 // number: SSI, or SSI times 2^24 and the extension. FIRST and BITS are the user data's. MARK is 0 nothing to book, 1
-// booked, 2 again. Of the elements of kinds 9 and 12 the last bit alone counts; a number that a message does not have is
-// 0.
+// booked, 2 again. What a message does not have is 0. Of the elements of kinds 9 and 12 the last bit alone counts.
 // What a body has more than its kind takes is left alone. Another kind, or a buffer or an output above 1,024, prints `kind`, and is skipped. A
 // record that is cut off, has a length below 2 or a body above 4,096 bytes, or is shorter than its kind, prints `cut`, and nothing is read after it.
 ghost use mathlib.Core.Path.{_≡_};

@@ -2,7 +2,6 @@
 mod body;
 mod print;
 
-ghost use mathlib.Core.Path.{_≡_};
 ghost use Prim.Native.Nat.{_≤_};
 ghost use lib.ListN.{length};
 ghost use Rattle.bookings.specs.Kept.{Reached};
