@@ -113,8 +113,8 @@ impl Bookings {
     }
 
     // Reads a DM-SDU, n bits of it, and books it if it is a transfer whose pair is not there. A refused message and one
-    // that is no transfer leave the record as it was. Asks for a record that `fresh` or an earlier `book` gave, and gives
-    // such a one.
+    // that is no transfer leave the record as it was. Asks for a record that `fresh` or an earlier `book` gave, and
+    // gives such a one.
     pub fn book(self, fields: Fields, n: usize, sdu: &[u8]) -> Reply
         requires { ⌜ Reached self ⌝ }
         ensures { λ r. ⌜ Reached (r .bookings) × Books self (lent fields n (now (sdu .entry))) r ⌝ }

@@ -10,7 +10,8 @@ use Rattle.bits.specs.Layout.{Part, partsWith, pack, total, AllFit, AllNarrow}
 use Rattle.blocks.specs.Faults.{unless, firstOf}
 use Rattle.store.specs.Store.{handed}
 use Rattle.fcs.specs.Annex.{fcsOf}
-use Rattle.transport.specs.Layouts.{ackOf, per, forwardWidth, Shape, shape, layout, at, sdtiOf, typeOf, beginningOf}
+use Rattle.transport.specs.Layouts.{ackOf, per, forwardWidth, Shape, shape, layout, at}
+use Rattle.transport.specs.Layouts.{sdtiOf, typeOf, beginningOf}
 use Rattle.transport.specs.Reading.{direct}
 use Rattle.transport.specs.declared.Message.{Message}
 use Rattle.transport.specs.declared.Sdu.{Sdu}
@@ -127,9 +128,11 @@ abbrev pub buildChecks : ℕ → ℕ → Message → ℕ → ℕ → ℕ → Lis
 buildChecks carrier flag m n bytes lent =
     let ack = ackOf carrier in
     let kind = m .kind in
-    kindRules carrier (ack + 1) kind (per kind 128 128 128 0) (m .protocol) (storedHolds kind (m .storage) (m .forward)) ++
+    kindRules carrier (ack + 1) kind (per kind 128 128 128 0) (m .protocol)
+    (storedHolds kind (m .storage) (m .forward)) ++
     (flagRules flag (m .addressed) (m .storage) n (per kind 2047 2047 0 0) (leb n (8 * bytes)) ++
-    fitRules (lengthFor (shapeFor ack m) n) (mostFor ack flag) (fits (partsFor ack m n)) (leb (bitsFor carrier flag m n) (8 * lent)))
+    fitRules (lengthFor (shapeFor ack m) n) (mostFor ack flag) (fits (partsFor ack m n))
+    (leb (bitsFor carrier flag m n) (8 * lent)))
 
 unfoldable pub buildFault : ℕ → ℕ → Message → ℕ → ℕ → ℕ → ℕ
 buildFault carrier flag m n bytes lent = firstOf (buildChecks carrier flag m n bytes lent)
@@ -167,7 +170,8 @@ builtAs (suc f) bits = record { fault = suc f; bits = 0 }
 abbrev pub fitFault : ℕ → ℕ → Message → ℕ → ℕ → ℕ
 fitFault ack flag m n lent =
     let q = shapeFor ack m in
-    firstOf (fitRules (lengthFor q n) (mostFor ack flag) (fits (partsFor ack m n)) (leb (at 20 q + n + 32 * flag) (8 * lent)))
+    firstOf
+    (fitRules (lengthFor q n) (mostFor ack flag) (fits (partsFor ack m n)) (leb (at 20 q + n + 32 * flag) (8 * lent)))
 
 unfoldable pub sduOf : ℕ → ℕ → Message → ℕ → ℕ → ℕ → Sdu
 sduOf carrier flag m n bytes lent = builtAs (buildFault carrier flag m n bytes lent) (bitsFor carrier flag m n)

@@ -1,5 +1,5 @@
--- The DM-SDU of DM-SDS UDATA (9.5.15), DM-SDS DATA (9.5.16) and DM-SDS ACK (9.5.17) with an SDS-TL message (EN 300 392-2,
--- 29.4.2) in it: one list of widths, which is read and built by.
+-- The DM-SDU of DM-SDS UDATA (9.5.15), DM-SDS DATA (9.5.16) and DM-SDS ACK (9.5.17) with an SDS-TL message
+-- (EN 300 392-2, 29.4.2) in it: one list of widths, which is read and built by.
 use mathlib.Core.Bool.{Bool, cond}
 use mathlib.Core.List.{List, [], _∷_}
 use Prim.Native.Nat.{ℕ, _+_, _-_, _*_}
@@ -10,8 +10,8 @@ use Rattle.bits.specs.Layout.{placeIn}
 abbrev pub ackOf : ℕ → ℕ
 ackOf carrier = cond (eqb carrier 24) 1 0
 
--- A number for each kind of message: 1 SDS-TRANSFER (29.4.2.4), 2 SDS-REPORT (29.4.2.2), 3 SDS-ACK (29.4.2.1), 4 SDS-SHORT
--- REPORT (29.4.2.3).
+-- A number for each kind of message: 1 SDS-TRANSFER (29.4.2.4), 2 SDS-REPORT (29.4.2.2), 3 SDS-ACK (29.4.2.1), 4
+-- SDS-SHORT REPORT (29.4.2.3).
 abbrev pub per : ℕ → ℕ → ℕ → ℕ → ℕ → ℕ
 per kind transfer report ack short =
     cond (eqb kind 1) transfer (cond (eqb kind 2) report (cond (eqb kind 3) ack (cond (eqb kind 4) short 0)))

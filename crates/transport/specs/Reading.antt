@@ -27,8 +27,8 @@ abbrev pub fcsHolds : ℕ → ℕ → List Bool → Bool
 fcsHolds flag end b =
     cond (eqb flag 1) (cond (ltb (length b) (end + 32)) true (eqb (field end 32 b) (num (fcsOf (take end b))))) true
 
--- 21: not one of the four, or too short to tell. The message type is one of the three; acknowledgement type 0001 in a DM-SDS
--- ACK; additional address type 0001, where one is told of; one of the four kinds; forward address type; FCS.
+-- 21: not one of the four, or too short to tell. The message type is one of the three; acknowledgement type 0001 in a
+-- DM-SDS ACK; additional address type 0001, where one is told of; one of the four kinds; forward address type; FCS.
 -- 22: it ends before its last element, or before its data or its FCS do.
 abbrev pub sduRules : ℕ → ℕ → ℕ → ℕ → ℕ → ℕ → Bool → Bool → ℕ → ℕ → ℕ → ℕ → List ℕ
 sduRules carrier acknowledged ack address addressed kind forward check fixed end flag n =
@@ -47,7 +47,8 @@ abbrev pub rulesOf : ℕ → ℕ → Shape → List Bool → List ℕ
 rulesOf carrier flag q b =
     let end = endIn q b in
     sduRules carrier (elementIn 0 q b) (q .ack) (elementIn 2 q b) (q .addressed) (q .kind)
-    (forwardHolds (q .storage) (q .forward) (at 19 q) end (length b)) (fcsHolds flag end b) (at 20 q) end flag (length b)
+    (forwardHolds (q .storage) (q .forward) (at 19 q) end (length b)) (fcsHolds flag end b) (at 20 q) end flag
+    (length b)
 
 -- The FCS flag is the last bit of the header's elements (9.5.15 to 9.5.17).
 abbrev pub flagOf : ℕ → ℕ
@@ -122,7 +123,9 @@ answered (suc n) r = refusedTransport (suc n)
 
 -- What these bits read as.
 unfoldable pub readBits : ℕ → ℕ → List Bool → Transport
-readBits carrier flag b = let q = shapeOf (ackOf carrier) b in answered (firstOf (rulesOf carrier flag q b)) (transportOf q b)
+readBits carrier flag b =
+    let q = shapeOf (ackOf carrier) b in
+    answered (firstOf (rulesOf carrier flag q b)) (transportOf q b)
 
 -- What is read of the first n bits of a DM-SDU that came with this message type and these elements.
 unfoldable pub readOf : ℕ → ℕ → ℕ → List ℕ → Transport

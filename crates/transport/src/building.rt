@@ -8,7 +8,9 @@ ghost use Rattle.bits.specs.Layout.{AllNarrow, partsWith, pack};
 ghost use Rattle.blocks.specs.Faults.{firstOf};
 ghost use Rattle.store.specs.Store.{handed};
 ghost use Rattle.transport.specs.Layouts.{per, shape, layout, at};
-ghost use Rattle.transport.specs.Building.{valuesFor, messageBits, storedHolds, kindRules, flagRules, mostFor, fitRules, fits, checked, shapeFor, dataAt, PutsSdu, Passed, fitFault, frameBits, builtAs, outAs};
+ghost use Rattle.transport.specs.Building.{valuesFor, messageBits, storedHolds, kindRules, flagRules, mostFor};
+ghost use Rattle.transport.specs.Building.{fitRules, fits, checked, shapeFor, dataAt, PutsSdu, Passed};
+ghost use Rattle.transport.specs.Building.{fitFault, frameBits, builtAs, outAs};
 use crate::Message;
 use crate::Sdu;
 use crate::elements::forward_width;
@@ -204,7 +206,8 @@ pub(crate) fn all_fit(widths: &[u8], values: &[u64]) -> bool
 // Puts the FCS of the first `end` bits after them, if the flag is 1.
 fn put_fcs(out: &mut [u8], end: usize, flag: u8)
     requires { ⌜ Inside (length (now out)) 0 (end + 32 * flag) × (end ≤ 4096) × (flag ≤ 1) ⌝ }
-    ensures { λ r. ⌜ bitsOf (now (out .exit)) ≡ over 0 (checked flag (take end (bitsOf (now (out .entry))))) (bitsOf (now (out .entry))) ⌝ }
+    ensures { λ r. ⌜ bitsOf (now (out .exit))
+        ≡ over 0 (checked flag (take end (bitsOf (now (out .entry))))) (bitsOf (now (out .entry))) ⌝ }
 {
     if flag == 1 {
         let c = fcs::fcs_of(out, end);
@@ -224,7 +227,11 @@ fn put_sdu(
     out: &mut [u8],
 )
     requires { ⌜ PutsSdu (now widths) (now values) (now user) first n flag (now out) ⌝ }
-    ensures { λ r. ⌜ now (out .exit) ≡ handed (checked flag (pack (partsWith (now (widths .entry)) (now (values .entry))) ++ take n (bitsOf (now (user .entry))))) (now (out .entry)) ⌝ }
+    ensures { λ r. ⌜ now (out .exit)
+        ≡ handed
+        (checked flag
+        (pack (partsWith (now (widths .entry)) (now (values .entry))) ++ take n (bitsOf (now (user .entry)))))
+        (now (out .entry)) ⌝ }
 {
     bits::put_all(out, 0, widths, values);
     bits::copy(user, 0, out, first, n);
@@ -243,8 +250,11 @@ pub(crate) fn build_message(
     out: &mut [u8],
 ) -> Sdu
     requires { ⌜ Passed ack flag m n (length (now user)) ⌝ }
-    ensures { λ r. ⌜ (r ≡ builtAs (fitFault ack flag m n (length (now (out .entry)))) (at 20 (shapeFor ack m) + n + 32 * flag))
-        × (now (out .exit) ≡ outAs (fitFault ack flag m n (length (now (out .entry)))) (checked flag (frameBits ack m (take n (bitsOf (now (user .entry)))))) (now (out .entry))) ⌝ }
+    ensures { λ r. ⌜ (r
+        ≡ builtAs (fitFault ack flag m n (length (now (out .entry)))) (at 20 (shapeFor ack m) + n + 32 * flag))
+        × (now (out .exit)
+        ≡ outAs (fitFault ack flag m n (length (now (out .entry))))
+        (checked flag (frameBits ack m (take n (bitsOf (now (user .entry)))))) (now (out .entry))) ⌝ }
 {
     let kind = m.kind;
     let from = data_at(ack, m.addressed, kind);

@@ -11,9 +11,9 @@ ghost use Rattle.transport.specs.Reading.{refusedTransport, readOf};
 use blocks::header::Fields;
 
 // An SDS-TL message's elements; one that the message does not have is 0. `kind` is 1 SDS-TRANSFER, 2 SDS-REPORT, 3
-// SDS-ACK, 4 SDS-SHORT REPORT. `addressed` is 1 where the calling party's `mni` and `ssi` stand in the DM-SDU. `status` is
-// the delivery status, of a short report its type. `address` is the forward address as one number: SSI, or SSI times 2^24
-// and the extension.
+// SDS-ACK, 4 SDS-SHORT REPORT. `addressed` is 1 where the calling party's `mni` and `ssi` stand in the DM-SDU. `status`
+// is the delivery status, of a short report its type. `address` is the forward address as one number: SSI, or SSI times
+// 2^24 and the extension.
 #[repr(C)]
 pub struct Message {
     pub kind: u8,
