@@ -6,7 +6,8 @@ use Prim.Native.Nat.{ℕ, zero, suc, _+_, _-_, _*_, _/_, _%_, _^_, _≤_, _<_}
 use native.Mathlib.Nat.{zero-add, add-zero}
 use native.Mathlib.Omega.{arith}
 use lib.Dec.{eqb, leb, ltb}
-use lib.ListN.{length, take, drop, replicate, getD, length-append, length-take, length-drop, length-replicate, take-append-drop}
+use lib.ListN.{length, take, drop, replicate, getD, length-append, length-take, length-drop}
+use lib.ListN.{length-replicate, take-append-drop}
 use lib.Seq.{drop-cons, drop-length, length-take-le}
 use borrow.Author.Tests.{le-ltb, lt-ltb, ltb-true, eqb-true, eqb-false, eq-eqb, ne-eqb}
 use Rattle.bits.specs.Bits.{num, bitsN, bitsOf, bytesN, over, AllBytes}
@@ -37,10 +38,11 @@ narrow-at (w ∷ ws) (suc i) n = narrow-at ws i (n .1)
 pub narrow-in : {w : ℕ} (ws : List ℕ) (i : ℕ) → AllNarrow ws → w ≡ getD ws i 0 → w ≤ 56
 narrow-in ws i n e = rw e (narrow-at ws i n)
 
-module _ (ws vs : List ℕ) (i : ℕ) {w : ℕ} (h : i < length ws) (l : length ws ≡ length vs) (n : AllNarrow ws) (e : w ≡ getD ws i 0)
-    (s : LeftFit ws vs i) where
+module _ (ws vs : List ℕ) (i : ℕ) {w : ℕ} (h : i < length ws) (l : length ws ≡ length vs) (n : AllNarrow ws)
+    (e : w ≡ getD ws i 0) (s : LeftFit ws vs i) where
   next-is : fits (partsWith ws vs) ≡ (ltb (getD vs i 0) (2 ^ w) && fits (partsWith (drop (suc i) ws) (drop (suc i) vs)))
-  next-is = rw e (s ∙ ap₂ (λ (a b : List ℕ). fits (partsWith a b)) (drop-cons ws i 0 h) (drop-cons vs i 0 (omega arith)))
+  next-is =
+      rw e (s ∙ ap₂ (λ (a b : List ℕ). fits (partsWith a b)) (drop-cons ws i 0 h) (drop-cons vs i 0 (omega arith)))
 
   -- as the code shifts
   shifted : 1 * 2 ^ w % 2 ^ 64 ≡ 2 ^ w
@@ -55,10 +57,14 @@ module _ (ws vs : List ℕ) (i : ℕ) {w : ℕ} (h : i < length ws) (l : length 
       one-more : i + 1 ≡ suc i
       one-more = omega arith
 
-pub fits-end : (ws vs : List ℕ) (i : ℕ) → length ws ≤ i → i ≤ length ws → LeftFit ws vs i → true ≡ fits (partsWith ws vs)
+pub fits-end : (ws vs : List ℕ) (i : ℕ) → length ws ≤ i → i ≤ length ws → LeftFit ws vs i
+    → true ≡ fits (partsWith ws vs)
 fits-end ws vs i a b s =
     let e : i ≡ length ws = omega arith in
-    sym (s ∙ ap (λ (j : ℕ). fits (partsWith (drop j ws) (drop j vs))) e ∙ ap (λ (x : List ℕ). fits (partsWith x (drop (length ws) vs))) (drop-length ws))
+    sym
+    (s
+    ∙ ap (λ (j : ℕ). fits (partsWith (drop j ws) (drop j vs))) e
+    ∙ ap (λ (x : List ℕ). fits (partsWith x (drop (length ws) vs))) (drop-length ws))
 
 both : (a b : Bool) → (a && b) ≡ true → (a ≡ true) × (b ≡ true)
 both true b e = (refl, e)
@@ -77,9 +83,12 @@ all-fits (p ∷ ps) h = rw (lt-ltb (p .value) (2 ^ p .width) (h .0), all-fits ps
 
 -- ---- where the elements end
 
-per-sum : (kind : ℕ) (t₁ t₂ t₃ t₄ : Bool) → eqb kind 1 ≡ t₁ → eqb kind 2 ≡ t₂ → eqb kind 3 ≡ t₃ → eqb kind 4 ≡ t₄ → 1 ≤ kind → kind ≤ 4
+per-sum : (kind : ℕ) (t₁ t₂ t₃ t₄ : Bool) → eqb kind 1 ≡ t₁ → eqb kind 2 ≡ t₂ → eqb kind 3 ≡ t₃ → eqb kind 4 ≡ t₄
+    → 1 ≤ kind → kind ≤ 4
     → let of : ℕ → ℕ → ℕ → ℕ → ℕ = λ a b c d. cond t₁ a (cond t₂ b (cond t₃ c (cond t₄ d 0))) in
-    of 8 8 8 0 + of 4 4 4 0 + of 2 0 0 0 + of 1 0 0 0 + of 0 1 0 0 + of 0 2 4 0 + of 1 1 0 0 + of 0 0 0 6 + of 0 8 8 2 + 8 ≡ of 24 32 32 16
+    of 8 8 8 0 + of 4 4 4 0 + of 2 0 0 0 + of 1 0 0 0 + of 0 1 0 0 + of 0 2 4 0 + of 1 1 0 0 + of 0 0 0 6 + of 0 8 8 2
+    + 8
+    ≡ of 24 32 32 16
 per-sum kind true t₂ t₃ t₄ e₁ e₂ e₃ e₄ l h = refl
 per-sum kind false true t₃ t₄ e₁ e₂ e₃ e₄ l h = refl
 per-sum kind false false true t₄ e₁ e₂ e₃ e₄ l h = refl
@@ -92,17 +101,21 @@ per-sum kind false false false false e₁ e₂ e₃ e₄ l h =
     absurd (omega arith)
 
 -- the elements from the protocol identifier or the status on
-pub message-end : (q : Shape) → 1 ≤ q .kind → q .kind ≤ 4 → at 20 q ≡ at 7 q + messageBits (q .kind) (q .storage) (q .forward)
+pub message-end : (q : Shape) → 1 ≤ q .kind → q .kind ≤ 4
+    → at 20 q ≡ at 7 q + messageBits (q .kind) (q .storage) (q .forward)
 message-end q l h =
-    let e = per-sum (q .kind) (eqb (q .kind) 1) (eqb (q .kind) 2) (eqb (q .kind) 3) (eqb (q .kind) 4) refl refl refl refl l h in
+    let k = q .kind in
+    let e = per-sum k (eqb k 1) (eqb k 2) (eqb k 3) (eqb k 4) refl refl refl refl l h in
     omega arith
 
 -- ---- storage's forward address type
 
-pub stored-not : (kind storage forward : ℕ) {w : ℕ} → w ≡ per kind storage storage 0 0 → (w ≡ 1 → ⊥) → true ≡ storedHolds kind storage forward
+pub stored-not : (kind storage forward : ℕ) {w : ℕ} → w ≡ per kind storage storage 0 0 → (w ≡ 1 → ⊥)
+    → true ≡ storedHolds kind storage forward
 stored-not kind storage forward e h = rw (ne-eqb (per kind storage storage 0 0) 1 (rw e at h)) refl
 
-pub stored-is : (kind storage forward : ℕ) {w : ℕ} → w ≡ per kind storage storage 0 0 → w ≡ 1 → direct forward ≡ storedHolds kind storage forward
+pub stored-is : (kind storage forward : ℕ) {w : ℕ} → w ≡ per kind storage storage 0 0 → w ≡ 1
+    → direct forward ≡ storedHolds kind storage forward
 stored-is kind storage forward e h = rw (eq-eqb (per kind storage storage 0 0) 1 (sym e ∙ h)) refl
 
 -- ---- the FCS after the frame
@@ -123,7 +136,8 @@ fcs-put flag end v old f h e =
     ∙ ap (λ (k : ℕ). over k (fcsOf a) (over 0 a old)) (sym (zero-add (length a) ∙ la))
     ∙ over-over 0 a (fcsOf a) old (omega (arith, la, length-fcs a)))
 
-pub fcs-none : (flag end : ℕ) (old : List Bool) → (flag ≡ 1 → ⊥) → end ≤ length old → old ≡ over 0 (checked flag (take end old)) old
+pub fcs-none : (flag end : ℕ) (old : List Bool) → (flag ≡ 1 → ⊥) → end ≤ length old
+    → old ≡ over 0 (checked flag (take end old)) old
 fcs-none flag end old f h = rw (ne-eqb flag 1 f) (sym (over-same end old h))
 
 -- ---- all of it written
@@ -141,8 +155,8 @@ length-checked flag f h = when (eqb flag 1) refl
     when true e = let z = eqb-true flag 1 e in length-append f (fcsOf f) ∙ omega (arith, length-fcs f)
     when false e = let z = eqb-false flag 1 e in omega arith
 
-module _ (p u : List Bool) (first n flag : ℕ) (old new : List ℕ) (lp : length p ≡ first) (lu : length u ≡ n) (hf : flag ≤ 1)
-    (room : first + n + 32 * flag ≤ 8 * length old) where
+module _ (p u : List Bool) (first n flag : ℕ) (old new : List ℕ) (lp : length p ≡ first) (lu : length u ≡ n)
+    (hf : flag ≤ 1) (room : first + n + 32 * flag ≤ 8 * length old) where
   abbrev o : List Bool
   o = bitsOf old
 
@@ -163,13 +177,16 @@ module _ (p u : List Bool) (first n flag : ℕ) (old new : List ℕ) (lp : lengt
 
   elements-and-data : over first u (over 0 p o) ≡ over 0 frame o
   elements-and-data =
-      ap (λ (k : ℕ). over k u (over 0 p o)) (sym lp ∙ sym (zero-add (length p))) ∙ over-over 0 p u o (omega (arith, length-bitsOf old))
+      ap (λ (k : ℕ). over k u (over 0 p o)) (sym lp ∙ sym (zero-add (length p)))
+      ∙ over-over 0 p u o (omega (arith, length-bitsOf old))
 
   frame-there : take (first + n) (over 0 frame o) ≡ frame
   frame-there = over-read 0 (first + n) frame o (omega arith) length-frame
 
-  pub sdu-put : (b₁ b₂ b₃ : List Bool) → b₁ ≡ over 0 p o → b₂ ≡ over first u b₁ → b₃ ≡ over 0 (checked flag (take (first + n) b₂)) b₂
-      → bitsOf new ≡ over (first + n + 32 * flag) (replicate (q * 8 - (first + n + 32 * flag)) false) b₃ → AllBytes old → AllBytes new → new ≡ handed whole old
+  pub sdu-put : (b₁ b₂ b₃ : List Bool) → b₁ ≡ over 0 p o → b₂ ≡ over first u b₁
+      → b₃ ≡ over 0 (checked flag (take (first + n) b₂)) b₂
+      → bitsOf new ≡ over (first + n + 32 * flag) (replicate (q * 8 - (first + n + 32 * flag)) false) b₃
+      → AllBytes old → AllBytes new → new ≡ handed whole old
   sdu-put b₁ b₂ b₃ e₁ e₂ e₃ e₄ ho hn =
       let lw = length-whole in
       let lf = length-frame in

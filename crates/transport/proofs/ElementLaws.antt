@@ -20,7 +20,8 @@ use Rattle.transport.specs.Runs.{cut, runIn, storedAt}
 
 -- ---- widths
 
-per-when : (m a b c d : ℕ) (t₁ t₂ t₃ t₄ : Bool) → a ≤ m → b ≤ m → c ≤ m → d ≤ m → cond t₁ a (cond t₂ b (cond t₃ c (cond t₄ d 0))) ≤ m
+per-when : (m a b c d : ℕ) (t₁ t₂ t₃ t₄ : Bool) → a ≤ m → b ≤ m → c ≤ m → d ≤ m
+    → cond t₁ a (cond t₂ b (cond t₃ c (cond t₄ d 0))) ≤ m
 per-when m a b c d true t₂ t₃ t₄ ha hb hc hd = ha
 per-when m a b c d false true t₃ t₄ ha hb hc hd = hb
 per-when m a b c d false false true t₄ ha hb hc hd = hc

@@ -14,7 +14,10 @@ use Rattle.store.specs.Store.{handed}
 use Rattle.blocks.specs.Faults.{unless, firstOf}
 use Rattle.blocks.proofs.FaultLaws.{all-zero, holds, chain-none, chain-given}
 use Rattle.transport.specs.Layouts.{ackOf, per, forwardWidth, Shape, shape, layout, at}
-use Rattle.transport.specs.Building.{shapeFor, dataAt, messageBits, lengthFor, valuesFor, partsFor, frameBits, checked, builtBits, bitsFor, storedHolds, kindRules, flagRules, mostFor, fits, fitRules, buildFault, Passed, PutsSdu, builtAs, fitFault, outAs, sduOf, outOf}
+use Rattle.transport.specs.Building.{shapeFor, dataAt, messageBits, lengthFor, valuesFor, partsFor, frameBits}
+use Rattle.transport.specs.Building.{checked, builtBits, bitsFor, storedHolds, kindRules, flagRules, mostFor}
+use Rattle.transport.specs.Building.{fits, fitRules, buildFault, Passed, PutsSdu, builtAs, fitFault, outAs}
+use Rattle.transport.specs.Building.{sduOf, outOf}
 use Rattle.transport.specs.declared.Message.{Message}
 use Rattle.transport.specs.declared.Sdu.{Sdu}
 use Rattle.transport.proofs.ElementLaws.{per-le, forward-le}
@@ -63,12 +66,15 @@ module _ {ack flag n bytes : ℕ} {m : Message} (k : Passed ack flag m n bytes) 
       ap (λ (x : ℕ). per (m .kind) x x x 0) e
 
   pub narrow-message : AllNarrow (layout q)
-  narrow-message = narrow-layout ack (m .addressed) (m .kind) (m .storage) (m .forward) (k .carried) (k .addressed) (k .storage)
+  narrow-message =
+      narrow-layout ack (m .addressed) (m .kind) (m .storage) (m .forward) (k .carried) (k .addressed) (k .storage)
 
-module _ (ack flag n : ℕ) (m : Message) (user old : List ℕ) (k : Passed ack flag m n (length user)) {from own l most : ℕ} {ws vs : List ℕ} {fit enough : Bool}
-    {fault : ℕ} (ef : from ≡ dataAt ack (m .addressed) (m .kind)) (eo : own ≡ messageBits (m .kind) (m .storage) (m .forward))
-    (el : l ≡ per (m .kind) (own + n) (own + n) (own + n) 0) (ew : ws ≡ layout (shapeFor ack m)) (ev : vs ≡ valuesFor ack m l)
-    (em : most ≡ mostFor ack flag) (et : fit ≡ fits (partsWith ws vs)) (en : enough ≡ leb (from + own + n + 32 * flag) (8 * length old))
+module _ (ack flag n : ℕ) (m : Message) (user old : List ℕ) (k : Passed ack flag m n (length user))
+    {from own l most : ℕ} {ws vs : List ℕ} {fit enough : Bool} {fault : ℕ}
+    (ef : from ≡ dataAt ack (m .addressed) (m .kind)) (eo : own ≡ messageBits (m .kind) (m .storage) (m .forward))
+    (el : l ≡ per (m .kind) (own + n) (own + n) (own + n) 0) (ew : ws ≡ layout (shapeFor ack m))
+    (ev : vs ≡ valuesFor ack m l) (em : most ≡ mostFor ack flag) (et : fit ≡ fits (partsWith ws vs))
+    (en : enough ≡ leb (from + own + n + 32 * flag) (8 * length old))
     (er : fault ≡ firstOf (fitRules l most fit enough)) where
   abbrev shaped : Shape
   shaped = shapeFor ack m
@@ -86,10 +92,11 @@ module _ (ack flag n : ℕ) (m : Message) (user old : List ℕ) (k : Passed ack 
   fault-is =
       er
       ∙ ap₂ (λ (x : ℕ) (y : ℕ). firstOf (fitRules x y fit enough)) indicated em
-      ∙ ap₂ (λ (x : Bool) (y : Bool). firstOf (fitRules (lengthFor shaped n) (mostFor ack flag) x y)) (et ∙ ap fits parts-are)
-      (en ∙ ap (λ (x : ℕ). leb (x + n + 32 * flag) (8 * length old)) first)
+      ∙ ap₂ (λ (x : Bool) (y : Bool). firstOf (fitRules (lengthFor shaped n) (mostFor ack flag) x y))
+      (et ∙ ap fits parts-are) (en ∙ ap (λ (x : ℕ). leb (x + n + 32 * flag) (8 * length old)) first)
 
-  refused-when : (f : ℕ) (b : List Bool) (bits : ℕ) → (f ≡ 0 → ⊥) → (record { fault = f; bits = 0 } ≡ builtAs f bits) × (old ≡ outAs f b old)
+  refused-when : (f : ℕ) (b : List Bool) (bits : ℕ) → (f ≡ 0 → ⊥)
+      → (record { fault = f; bits = 0 } ≡ builtAs f bits) × (old ≡ outAs f b old)
   refused-when zero b bits h = absurd (h refl)
   refused-when (suc f) b bits h = (refl, refl)
 
@@ -97,7 +104,9 @@ module _ (ack flag n : ℕ) (m : Message) (user old : List ℕ) (k : Passed ack 
       (record { fault = fault; bits = 0 } ≡ builtAs f (at 20 shaped + n + 32 * flag))
       × (old ≡ outAs f (checked flag (frameBits ack m (take n (bitsOf user)))) old)
   message-refused h =
-      rw fault-is (refused-when (fitFault ack flag m n (length old)) (checked flag (frameBits ack m (take n (bitsOf user)))) (at 20 shaped + n + 32 * flag) (rw fault-is at h))
+      rw fault-is
+      (refused-when (fitFault ack flag m n (length old)) (checked flag (frameBits ack m (take n (bitsOf user))))
+      (at 20 shaped + n + 32 * flag) (rw fault-is at h))
 
   first-near : from + own ≤ 256
   first-near =
@@ -131,21 +140,28 @@ module _ (ack flag n : ℕ) (m : Message) (user old : List ℕ) (k : Passed ack 
           room = room;
         }
 
-    pub message-built : {new : List ℕ} → new ≡ handed (checked flag (pack (partsWith ws vs) ++ take n (bitsOf user))) old
+    pub message-built : {new : List ℕ}
+        → new ≡ handed (checked flag (pack (partsWith ws vs) ++ take n (bitsOf user))) old
         → let f = fitFault ack flag m n (length old) in
         (record { fault = 0; bits = from + own + n + 32 * flag } ≡ builtAs f (at 20 shaped + n + 32 * flag))
         × (new ≡ outAs f (checked flag (frameBits ack m (take n (bitsOf user)))) old)
     unfolding frameBits
     message-built e =
-        let n-is : length (take n (bitsOf user)) ≡ n = let h = k .lent in rw (length-take n (bitsOf user)) (omega (arith, length-bitsOf user)) in
+        let h = k .lent in
+        let n-is : length (take n (bitsOf user)) ≡ n =
+        rw (length-take n (bitsOf user)) (omega (arith, length-bitsOf user)) in
         rw (passed, first, n-is) (refl, e ∙ rw parts-are refl)
 
 -- ---- the whole
 
-module _ (carrier flag n : ℕ) (m : Message) (user old : List ℕ) {ack w kf : ℕ} {stored : Bool} (ea : ack ≡ ackOf carrier) (ew : w ≡ per (m .kind) 128 128 128 0)
-    (es : stored ≡ storedHolds (m .kind) (m .storage) (m .forward)) (ek : kf ≡ firstOf (kindRules carrier (ack + 1) (m .kind) w (m .protocol) stored)) where
+module _ (carrier flag n : ℕ) (m : Message) (user old : List ℕ) {ack w kf : ℕ} {stored : Bool}
+    (ea : ack ≡ ackOf carrier) (ew : w ≡ per (m .kind) 128 128 128 0)
+    (es : stored ≡ storedHolds (m .kind) (m .storage) (m .forward))
+    (ek : kf ≡ firstOf (kindRules carrier (ack + 1) (m .kind) w (m .protocol) stored)) where
   abbrev kinds : List ℕ
-  kinds = kindRules carrier (ackOf carrier + 1) (m .kind) (per (m .kind) 128 128 128 0) (m .protocol) (storedHolds (m .kind) (m .storage) (m .forward))
+  kinds =
+      kindRules carrier (ackOf carrier + 1) (m .kind) (per (m .kind) 128 128 128 0) (m .protocol)
+      (storedHolds (m .kind) (m .storage) (m .forward))
 
   abbrev flags : List ℕ
   flags = flagRules flag (m .addressed) (m .storage) n (per (m .kind) 2047 2047 0 0) (leb n (8 * length user))
@@ -153,7 +169,8 @@ module _ (carrier flag n : ℕ) (m : Message) (user old : List ℕ) {ack w kf : 
   abbrev rest : List ℕ
   rest =
       let a = ackOf carrier in
-      fitRules (lengthFor (shapeFor a m) n) (mostFor a flag) (fits (partsFor a m n)) (leb (bitsFor carrier flag m n) (8 * length old))
+      fitRules (lengthFor (shapeFor a m) n) (mostFor a flag) (fits (partsFor a m n))
+      (leb (bitsFor carrier flag m n) (8 * length old))
 
   abbrev built : List Bool
   built = builtBits carrier flag m (take n (bitsOf user))
@@ -161,9 +178,11 @@ module _ (carrier flag n : ℕ) (m : Message) (user old : List ℕ) {ack w kf : 
   -- what a fault comes to
   abbrev pub Answers : ℕ → List ℕ → Type 0
   Answers f new =
-      (record { fault = f; bits = 0 } ≡ sduOf carrier flag m n (length user) (length old)) × (new ≡ outOf carrier flag m n user old)
+      (record { fault = f; bits = 0 } ≡ sduOf carrier flag m n (length user) (length old))
+      × (new ≡ outOf carrier flag m n user old)
 
-  refused-with : (f g : ℕ) (bits : ℕ) (b : List Bool) → f ≡ g → (f ≡ 0 → ⊥) → (record { fault = f; bits = 0 } ≡ builtAs g bits) × (old ≡ outAs g b old)
+  refused-with : (f g : ℕ) (bits : ℕ) (b : List Bool) → f ≡ g → (f ≡ 0 → ⊥)
+      → (record { fault = f; bits = 0 } ≡ builtAs g bits) × (old ≡ outAs g b old)
   refused-with zero g bits b e h = absurd (h refl)
   refused-with (suc f) g bits b e h = rw (← e) (refl, refl)
 
@@ -176,7 +195,8 @@ module _ (carrier flag n : ℕ) (m : Message) (user old : List ℕ) {ack w kf : 
       refused-with kf (firstOf (kinds ++ (flags ++ rest))) (bitsFor carrier flag m n) built
       (kind-fault ∙ sym (chain-given kinds (flags ++ rest) (rw kind-fault at h))) h
 
-  module _ {most ff : ℕ} {lent : Bool} (zk : kf ≡ 0) (ep : most ≡ per (m .kind) 2047 2047 0 0) (el : lent ≡ leb n (8 * length user))
+  module _ {most ff : ℕ} {lent : Bool} (zk : kf ≡ 0) (ep : most ≡ per (m .kind) 2047 2047 0 0)
+      (el : lent ≡ leb n (8 * length user))
       (eg : ff ≡ firstOf (flagRules flag (m .addressed) (m .storage) n most lent)) where
     flag-fault : ff ≡ firstOf flags
     flag-fault = eg ∙ rw (ep, el) refl
@@ -195,9 +215,11 @@ module _ (carrier flag n : ℕ) (m : Message) (user old : List ℕ) {ack w kf : 
       build-passed =
           let s = all-zero kinds (sym kind-fault ∙ zk) in
           let t = all-zero flags (sym flag-fault ∙ zf) in
-          let lowest = leb-true (ackOf carrier + 1) (m .kind) (holds (leb (ackOf carrier + 1) (m .kind)) 20 (s .1 .1 .0)) in
+          let lowest = leb-true (ackOf carrier + 1) (m .kind)
+          (holds (leb (ackOf carrier + 1) (m .kind)) 20 (s .1 .1 .0)) in
           let p = per-le 2047 (m .kind) 2047 2047 0 0 (omega arith) (omega arith) (omega arith) (omega arith) in
-          let few = leb-true n (per (m .kind) 2047 2047 0 0) (holds (leb n (per (m .kind) 2047 2047 0 0)) 12 (t .1 .1 .1 .0)) in
+          let few = leb-true n (per (m .kind) 2047 2047 0 0)
+          (holds (leb n (per (m .kind) 2047 2047 0 0)) 12 (t .1 .1 .1 .0)) in
           record {
             carried = ack-le carrier ea;
             least = omega arith;
@@ -212,7 +234,8 @@ module _ (carrier flag n : ℕ) (m : Message) (user old : List ℕ) {ack w kf : 
       past-flags : firstOf (kinds ++ (flags ++ rest)) ≡ firstOf rest
       past-flags = past-kinds ∙ chain-none flags rest (sym flag-fault ∙ zf)
 
-      pub build-rest : {r : Sdu} {new : List ℕ} → let f = fitFault ack flag m n (length old) in r ≡ builtAs f (at 20 (shapeFor ack m) + n + 32 * flag)
+      pub build-rest : {r : Sdu} {new : List ℕ} → let f = fitFault ack flag m n (length old) in
+          r ≡ builtAs f (at 20 (shapeFor ack m) + n + 32 * flag)
           → new ≡ outAs f (checked flag (frameBits ack m (take n (bitsOf user)))) old
           → (r ≡ sduOf carrier flag m n (length user) (length old)) × (new ≡ outOf carrier flag m n user old)
       unfolding sduOf outOf buildFault builtBits

@@ -38,7 +38,8 @@ module _ (end n : ℕ) (s : List ℕ) (h : n ≤ 8 * length s) where
   pub fcs-not-there : (flag : ℕ) → flag ≡ 1 → n < end + 32 → true ≡ fcsHolds flag end b
   fcs-not-there flag f l = rw (eq-eqb flag 1 f, lt-ltb (length b) (end + 32) (rw (length-sdu n s h) l)) refl
 
-  pub fcs-there : (flag : ℕ) → flag ≡ 1 → end + 32 ≤ n → {x y : ℕ} → x ≡ field end 32 (bitsOf s) → y ≡ num (fcsOf (take end (bitsOf s)))
+  pub fcs-there : (flag : ℕ) → flag ≡ 1 → end + 32 ≤ n → {x y : ℕ} → x ≡ field end 32 (bitsOf s)
+      → y ≡ num (fcsOf (take end (bitsOf s)))
       → eqb x y ≡ fcsHolds flag end b
   fcs-there flag f l ex ey =
       rw (

@@ -18,7 +18,8 @@ use Rattle.fcs.specs.Annex.{fcsOf}
 use Rattle.fcs.proofs.Annex.{length-fcs}
 use Rattle.transport.specs.Layouts.{ackOf, per, forwardWidth, Shape, layout, at, endOf}
 use Rattle.transport.specs.Reading.{direct, readBits, readOf}
-use Rattle.transport.specs.Building.{shapeFor, messageBits, lengthFor, partsFor, frameBits, checked, builtBits, bitsFor, sduOf, outOf}
+use Rattle.transport.specs.Building.{shapeFor, messageBits, lengthFor, partsFor, frameBits, checked}
+use Rattle.transport.specs.Building.{builtBits, bitsFor, sduOf, outOf}
 use Rattle.transport.specs.Well.{endAt, ReadsWell, transportAt, Buildable}
 use Rattle.transport.specs.declared.Message.{Message}
 use Rattle.transport.specs.declared.Transport.{Transport}
@@ -100,10 +101,12 @@ module _ {carrier flag n bytes lent : ℕ} {m : Message} (k : Buildable carrier 
       ap forwardWidth z
 
   -- the length indicator ends user defined data 4 where the user data end, and a status has no other bits
-  ends-with : (l : ℕ) → l ≡ messageBits (m .kind) (m .storage) (m .forward) + n → let x = per (m .kind) l l l 0 in per (m .kind) x x x 16 ≡ l
+  ends-with : (l : ℕ) → l ≡ messageBits (m .kind) (m .storage) (m .forward) + n
+      → let x = per (m .kind) l l l 0 in per (m .kind) x x x 16 ≡ l
   ends-with l =
       by-kind
-      (λ (j : ℕ). m .storage ≤ per j 1 1 0 0 → (3 ≤ j → n ≡ 0) → l ≡ messageBits j (m .storage) (m .forward) + n → let x = per j l l l 0 in per j x x x 16 ≡ l)
+      (λ (j : ℕ). m .storage ≤ per j 1 1 0 0 → (3 ≤ j → n ≡ 0) → l ≡ messageBits j (m .storage) (m .forward) + n
+      → let x = per j l l l 0 in per j x x x 16 ≡ l)
       (λ s z e. refl)
       (λ s z e. refl)
       (λ s z e. refl)
@@ -202,7 +205,8 @@ module _ {carrier flag n bytes lent : ℕ} {m : Message} (k : Buildable carrier 
 
 -- ---- of the calls
 
-module _ (carrier flag : ℕ) (m : Message) (n : ℕ) (user out : List ℕ) (taken : sduOf carrier flag m n (length user) (length out) .fault ≡ 0) where
+module _ (carrier flag : ℕ) (m : Message) (n : ℕ) (user out : List ℕ)
+    (taken : sduOf carrier flag m n (length user) (length out) .fault ≡ 0) where
   pub build-shows : Buildable carrier flag m n (length user) (length out)
   build-shows = built-range carrier flag m n (length user) (length out) taken
 
@@ -218,12 +222,14 @@ module _ (carrier flag : ℕ) (m : Message) (n : ℕ) (user out : List ℕ) (tak
   -- a build that is not refused answers its number of bits, and its output begins with them
   pub sdu-answer : sduOf carrier flag m n (length user) (length out) ≡ record { fault = 0; bits = length sdu }
   sdu-answer =
-      range-built build-shows ∙ ap (λ (x : ℕ). record { fault = 0; bits = x }) (sym (length-bits build-shows lent lent-length))
+      range-built build-shows
+      ∙ ap (λ (x : ℕ). record { fault = 0; bits = x }) (sym (length-bits build-shows lent lent-length))
 
   pub sdu-output : outOf carrier flag m n user out ≡ handed sdu out
   sdu-output = range-out user out build-shows
 
-  pub sdu-out : take (sduOf carrier flag m n (length user) (length out) .bits) (bitsOf (outOf carrier flag m n user out)) ≡ sdu
+  pub sdu-out : take (sduOf carrier flag m n (length user) (length out) .bits) (bitsOf (outOf carrier flag m n user out))
+      ≡ sdu
   sdu-out = rw (sdu-answer, sdu-output) (handed-bits sdu out)
 
   pub sdu-fits : length sdu ≤ 8 * length out
@@ -232,13 +238,17 @@ module _ (carrier flag : ℕ) (m : Message) (n : ℕ) (user out : List ℕ) (tak
   pub built-reads : readBits carrier flag sdu ≡ backOf carrier m n
   built-reads = reads build-shows lent lent-length
 
-  -- what was built, read with elements whose last bit is the flag, is the message, every element, with its user data's place and number
+  -- what was built, read with elements whose last bit is the flag, is the message, every element, with its user data's
+  -- place and number
   pub reads-back : (elements : ℕ) → elements % 2 ≡ flag
-      → readOf carrier elements (sduOf carrier flag m n (length user) (length out) .bits) (outOf carrier flag m n user out) ≡ backOf carrier m n
+      → readOf carrier elements (sduOf carrier flag m n (length user) (length out) .bits)
+      (outOf carrier flag m n user out)
+      ≡ backOf carrier m n
   reads-back elements e =
       let room : length sdu ≤ 8 * length (handed sdu out) = rw (length-handed sdu out sdu-fits) sdu-fits in
+      let fits = le-leb (length sdu) (8 * length (handed sdu out)) room in
       rw (sdu-answer, sdu-output)
-      (sym (lent-read carrier elements (length sdu) (handed sdu out) (le-leb (length sdu) (8 * length (handed sdu out)) room))
+      (sym (lent-read carrier elements (length sdu) (handed sdu out) fits)
       ∙ ap₂ (λ (f : ℕ) (x : List Bool). readBits carrier f x) e (handed-bits sdu out)
       ∙ built-reads)
 
@@ -247,14 +257,18 @@ module _ (carrier flag : ℕ) (m : Message) (n : ℕ) (user out : List ℕ) (tak
   user-there = user-back build-shows lent lent-length
 
 -- two builds of different messages or user data differ
-pub different : {carrier flag n₁ n₂ bytes₁ bytes₂ lent₁ lent₂ : ℕ} {m₁ m₂ : Message} (k₁ : Buildable carrier flag m₁ n₁ bytes₁ lent₁)
-    (k₂ : Buildable carrier flag m₂ n₂ bytes₂ lent₂) (u₁ u₂ : List Bool) → length u₁ ≡ n₁ → length u₂ ≡ n₂
+pub different : {carrier flag n₁ n₂ bytes₁ bytes₂ lent₁ lent₂ : ℕ} {m₁ m₂ : Message}
+    (k₁ : Buildable carrier flag m₁ n₁ bytes₁ lent₁) (k₂ : Buildable carrier flag m₂ n₂ bytes₂ lent₂)
+    (u₁ u₂ : List Bool) → length u₁ ≡ n₁ → length u₂ ≡ n₂
     → builtBits carrier flag m₁ u₁ ≡ builtBits carrier flag m₂ u₂ → (m₁ ≡ m₂) × (u₁ ≡ u₂)
 different {carrier} {flag} {n₁} {n₂} {m₁ = m₁} {m₂ = m₂} k₁ k₂ u₁ u₂ l₁ l₂ e =
-    let back : backOf carrier m₁ n₁ ≡ backOf carrier m₂ n₂ = sym (reads k₁ u₁ l₁) ∙ ap (readBits carrier flag) e ∙ reads k₂ u₂ l₂ in
+    let back : backOf carrier m₁ n₁ ≡ backOf carrier m₂ n₂ =
+    sym (reads k₁ u₁ l₁) ∙ ap (readBits carrier flag) e ∙ reads k₂ u₂ l₂ in
     let same : m₁ ≡ m₂ = ap (λ (r : Transport). r .message) back in
-    let first : at 20 (shapeFor (ackOf carrier) m₁) ≡ at 20 (shapeFor (ackOf carrier) m₂) = ap (λ (m : Message). at 20 (shapeFor (ackOf carrier) m)) same in
-    let bits : bitsFor carrier flag m₁ n₁ ≡ bitsFor carrier flag m₂ n₂ = sym (length-bits k₁ u₁ l₁) ∙ ap length e ∙ length-bits k₂ u₂ l₂ in
+    let first : at 20 (shapeFor (ackOf carrier) m₁) ≡ at 20 (shapeFor (ackOf carrier) m₂) =
+    ap (λ (m : Message). at 20 (shapeFor (ackOf carrier) m)) same in
+    let bits : bitsFor carrier flag m₁ n₁ ≡ bitsFor carrier flag m₂ n₂ =
+    sym (length-bits k₁ u₁ l₁) ∙ ap length e ∙ length-bits k₂ u₂ l₂ in
     let number : n₁ ≡ n₂ = omega arith in (
       same,
       sym (user-back k₁ u₁ l₁) ∙ ap₂ (λ (n p : ℕ). take n (drop p (builtBits carrier flag m₁ u₁))) number first

@@ -406,9 +406,12 @@ answer-stands q b h =
     }
 
 -- what reads well reads as it stands
-pub well-stands : {carrier flag : ℕ} {b : List Bool} (w : ReadsWell carrier flag b) → readBits carrier flag b ≡ transportAt (w .form) b
+pub well-stands : {carrier flag : ℕ} {b : List Bool} (w : ReadsWell carrier flag b)
+    → readBits carrier flag b ≡ transportAt (w .form) b
 unfolding readBits
-well-stands {b = b} w = rw (well-passes w) (ap (λ (q : Shape). transportOf q b) (form-is w) ∙ answer-stands (w .form) b (fixed-inside w))
+well-stands {b = b} w =
+    rw (well-passes w)
+    (ap (λ (q : Shape). transportOf q b) (form-is w) ∙ answer-stands (w .form) b (fixed-inside w))
 
 answered-fault : (n : ℕ) (r : Transport) → r .fault ≡ 0 → answered n r .fault ≡ n
 answered-fault zero r e = e
