@@ -21,7 +21,12 @@ kind-rules-requires : tie.Need-kind-rules-requires
 kind-rules-requires c κs = search needs
 
 returns : tie.Need-returns
-returns c = build-kind (c .before .before .before .before .before .before .before .args .carrier) (c .before .before .before .before .before .before .before .args .fcs) (c .before .before .before .before .before .before .before .args .n) (c .before .before .before .before .before .before .before .args .message) (c .before .before .before .before .before .before .before .args .user .now) (c .before .before .before .before .before .before .before .args .out .now) (c .before .before .before .before .ack-of .ensures) (c .before .before .before .width .ensures) (c .before .before .stored-holds .ensures) (c .before .kind-rules .ensures) (c .if1 .taken)
+returns c =
+    let r = c .before in
+    let k = r .before .before .before in
+    let a = k .before .before .before .args in
+    build-kind (a .carrier) (a .fcs) (a .n) (a .message) (a .user .now) (a .out .now) (k .ack-of .ensures)
+    (r .before .before .width .ensures) (r .before .stored-holds .ensures) (r .kind-rules .ensures) (c .if1 .taken)
 
 per-requires : tie.Need-per-requires
 per-requires c κs = search needs
@@ -33,16 +38,41 @@ flag-rules-requires : tie.Need-flag-rules-requires
 flag-rules-requires c κs = search needs
 
 returns-2 : tie.Need-returns-2
-returns-2 c = build-flags (c .before .before .before .before .before .before .before .before .before .before .before .args .carrier) (c .before .before .before .before .before .before .before .before .before .before .before .args .fcs) (c .before .before .before .before .before .before .before .before .before .before .before .args .n) (c .before .before .before .before .before .before .before .before .before .before .before .args .message) (c .before .before .before .before .before .before .before .before .before .before .before .args .user .now) (c .before .before .before .before .before .before .before .before .before .before .before .args .out .now) (c .before .before .before .before .before .before .before .before .ack-of .ensures) (c .before .before .before .before .before .before .before .width .ensures) (c .before .before .before .before .before .before .stored-holds .ensures) (c .before .before .before .before .before .kind-rules .ensures) (c .before .before .before .before .if1 .left) (c .before .before .before .per .ensures) (c .before .before .bits-lent .ensures) (c .before .flag-rules .ensures) (c .if2 .taken)
+returns-2 c =
+    let f = c .before in
+    let i = f .before .before .before in
+    let r = i .before in
+    let k = r .before .before .before in
+    let a = k .before .before .before .args in
+    build-flags (a .carrier) (a .fcs) (a .n) (a .message) (a .user .now) (a .out .now) (k .ack-of .ensures)
+    (r .before .before .width .ensures) (r .before .stored-holds .ensures) (r .kind-rules .ensures) (i .if1 .left)
+    (f .before .before .per .ensures) (f .before .bits-lent .ensures) (f .flag-rules .ensures) (c .if2 .taken)
 
 build-message-requires : tie.Need-build-message-requires
-build-message-requires c κs = build-passed (c .before .before .before .before .before .before .before .before .before .before .before .before .args .carrier) (c .before .before .before .before .before .before .before .before .before .before .before .before .args .fcs) (c .before .before .before .before .before .before .before .before .before .before .before .before .args .n) (c .before .before .before .before .before .before .before .before .before .before .before .before .args .message) (c .before .before .before .before .before .before .before .before .before .before .before .before .args .user .now) (c .before .before .before .before .before .before .before .before .before .before .before .before .args .out .now) (c .before .before .before .before .before .before .before .before .before .ack-of .ensures) (c .before .before .before .before .before .before .before .before .width .ensures) (c .before .before .before .before .before .before .before .stored-holds .ensures) (c .before .before .before .before .before .before .kind-rules .ensures) (c .before .before .before .before .before .if1 .left) (c .before .before .before .before .per .ensures) (c .before .before .before .bits-lent .ensures) (c .before .before .flag-rules .ensures) (c .before .if2 .left)
+build-message-requires c κs =
+    let f = c .before .before in
+    let i = f .before .before .before in
+    let r = i .before in
+    let k = r .before .before .before in
+    let a = k .before .before .before .args in
+    build-passed (a .carrier) (a .fcs) (a .n) (a .message) (a .user .now) (a .out .now) (k .ack-of .ensures)
+    (r .before .before .width .ensures) (r .before .stored-holds .ensures) (r .kind-rules .ensures) (i .if1 .left)
+    (f .before .before .per .ensures) (f .before .bits-lent .ensures) (f .flag-rules .ensures) (c .before .if2 .left)
 
 same-length : tie.Need-same-length
 same-length c = search needs
 
 returns-3 : tie.Need-returns-3
-returns-3 c = build-rest (c .before .before .before .before .before .before .before .before .before .before .before .before .before .before .before .args .carrier) (c .before .before .before .before .before .before .before .before .before .before .before .before .before .before .before .args .fcs) (c .before .before .before .before .before .before .before .before .before .before .before .before .before .before .before .args .n) (c .before .before .before .before .before .before .before .before .before .before .before .before .before .before .before .args .message) (c .before .before .before .before .before .before .before .before .before .before .before .before .before .before .before .args .user .now) (c .before .before .before .before .before .before .before .before .before .before .before .before .before .before .before .args .out .now) (c .before .before .before .before .before .before .before .before .before .before .before .before .ack-of .ensures) (c .before .before .before .before .before .before .before .before .before .before .before .width .ensures) (c .before .before .before .before .before .before .before .before .before .before .stored-holds .ensures) (c .before .before .before .before .before .before .before .before .before .kind-rules .ensures) (c .before .before .before .before .before .before .before .before .if1 .left) (c .before .before .before .before .before .before .before .per .ensures) (c .before .before .before .before .before .before .bits-lent .ensures) (c .before .before .before .before .before .flag-rules .ensures) (c .before .before .before .before .if2 .left) (c .before .before .build-message .ensures .0) (c .before .before .build-message .ensures .1)
+returns-3 c =
+    let f = c .before .before .before .before .before in
+    let i = f .before .before .before in
+    let r = i .before in
+    let k = r .before .before .before in
+    let a = k .before .before .before .args in
+    build-rest (a .carrier) (a .fcs) (a .n) (a .message) (a .user .now) (a .out .now) (k .ack-of .ensures)
+    (r .before .before .width .ensures) (r .before .stored-holds .ensures) (r .kind-rules .ensures) (i .if1 .left)
+    (f .before .before .per .ensures) (f .before .bits-lent .ensures) (f .flag-rules .ensures) (c .before .before .before .before .if2 .left)
+    (c .before .before .build-message .ensures .0) (c .before .before .build-message .ensures .1)
 
 pub build-spec : {M : Type 1} → statement M
 build-spec =

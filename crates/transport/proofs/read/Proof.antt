@@ -15,13 +15,29 @@ refused-requires : tie.Need-refused-requires
 refused-requires c κs = search needs
 
 returns : tie.Need-returns
-returns c = let a = c .before .before .before .before .args in c .refused .ensures ∙ lent-refused (a .fields .message) (a .fields .elements) (a .n) (a .sdu .now) (sym (c .before .before .bits-lent .ensures) ∙ not-true (c .before .before .bits-lent .result) (c .before .if1 .taken))
+returns c =
+    let l = c .before .before in
+    let a = l .before .before .args in
+    c .refused .ensures
+    ∙ lent-refused (a .fields .message) (a .fields .elements) (a .n) (a .sdu .now)
+    (sym (l .bits-lent .ensures) ∙ not-true (l .bits-lent .result) (c .before .if1 .taken))
 
 read-bits-requires : tie.Need-read-bits-requires
-read-bits-requires c κs = let a = c .before .before .before .before .args in (leb-true (a .n) (8 * length (a .sdu .now)) (sym (c .before .before .bits-lent .ensures) ∙ not-false (c .before .before .bits-lent .result) (c .before .if1 .left)), omega arith)
+read-bits-requires c κs =
+    let l = c .before .before in
+    let a = l .before .before .args in (
+      leb-true (a .n) (8 * length (a .sdu .now))
+          (sym (l .bits-lent .ensures) ∙ not-false (l .bits-lent .result) (c .before .if1 .left)),
+      omega arith,
+    )
 
 returns-2 : tie.Need-returns-2
-returns-2 c = let a = c .before .before .before .before .before .args in c .read-bits .ensures ∙ lent-read (a .fields .message) (a .fields .elements) (a .n) (a .sdu .now) (sym (c .before .before .before .bits-lent .ensures) ∙ not-false (c .before .before .before .bits-lent .result) (c .before .before .if1 .left))
+returns-2 c =
+    let l = c .before .before .before in
+    let a = l .before .before .args in
+    c .read-bits .ensures
+    ∙ lent-read (a .fields .message) (a .fields .elements) (a .n) (a .sdu .now)
+    (sym (l .bits-lent .ensures) ∙ not-false (l .bits-lent .result) (c .before .before .if1 .left))
 
 pub read-spec : {M : Type 1} → statement M
 read-spec =

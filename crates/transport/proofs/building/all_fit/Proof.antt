@@ -22,7 +22,11 @@ index-requires : tie.Need-index-requires Inv-loop μ-loop
 index-requires c κs = tt
 
 shl-if1 : tie.Need-shl-if1 Inv-loop μ-loop
-shl-if1 c = let a = c .before .before .before .before .before .before .args in let w = narrow-in (a .widths .now) (c .before .before .before .loop .i) (c .before .before .before .before .before .before .pre .1) (c .index .ensures) in omega arith
+shl-if1 c =
+    let l = c .before .before .before in
+    let s = l .before .before .before in
+    let w = narrow-in (s .args .widths .now) (l .loop .i) (s .pre .1) (c .index .ensures) in
+    omega arith
 
 mul-if1 : tie.Need-mul-if1 Inv-loop μ-loop
 mul-if1 c = let l = c .before .before .before .before .before .before .pre .0 in omega arith
@@ -31,7 +35,13 @@ shared-slice-read-if1 : tie.Need-shared-slice-read-if1 Inv-loop μ-loop
 shared-slice-read-if1 c = let l = c .before .before .before .before .before .before .before .pre .0 in omega arith
 
 returns : tie.Need-returns Inv-loop μ-loop
-returns c = let a = c .before .before .before .before .before .before .before .before .args in let l = c .before .before .before .before .before .loop in too-large (a .widths .now) (a .values .now) (l .i) (omega arith) (c .before .before .before .before .before .before .before .before .pre .0) (c .before .before .before .before .before .before .before .before .pre .1) (c .before .before .index .ensures) (l .inv .1) (c .if1 .taken)
+returns c =
+    let i = c .before .before in
+    let l = i .before .before .before .loop in
+    let s = i .before .before .before .before .before .before in
+    let a = s .args in
+    too-large (a .widths .now) (a .values .now) (l .i) (omega arith) (s .pre .0) (s .pre .1) (i .index .ensures)
+    (l .inv .1) (c .if1 .taken)
 
 add-i : tie.Need-add-i Inv-loop μ-loop
 add-i c = omega arith
@@ -40,10 +50,21 @@ loop-less : tie.Need-loop-less Inv-loop μ-loop
 loop-less c = omega arith
 
 loop-again : tie.Need-loop-again Inv-loop μ-loop
-loop-again c = let a = c .before .before .before .before .before .before .before .before .args in let l = c .before .before .before .before .before .loop in (omega arith, fits-next (a .widths .now) (a .values .now) (l .i) (omega arith) (c .before .before .before .before .before .before .before .before .pre .0) (c .before .before .before .before .before .before .before .before .pre .1) (c .before .before .index .ensures) (l .inv .1) (c .if1 .left))
+loop-again c =
+    let i = c .before .before in
+    let l = i .before .before .before .loop in
+    let s = i .before .before .before .before .before .before in
+    let a = s .args in (
+      omega arith,
+      fits-next (a .widths .now) (a .values .now) (l .i) (omega arith) (s .pre .0) (s .pre .1) (i .index .ensures)
+          (l .inv .1) (c .if1 .left),
+    )
 
 returns-2 : tie.Need-returns-2 Inv-loop μ-loop
-returns-2 c = let a = c .before .before .before .before .args in let l = c .before .loop in fits-end (a .widths .now) (a .values .now) (l .i) (omega arith) (omega arith) (l .inv .1)
+returns-2 c =
+    let a = c .before .before .before .before .args in
+    let l = c .before .loop in
+    fits-end (a .widths .now) (a .values .now) (l .i) (omega arith) (omega arith) (l .inv .1)
 
 pub all-fit-spec : {M : Type 1} → statement M
 all-fit-spec =

@@ -50,7 +50,10 @@ slice-aggregate-all-fit-2 : tie.Need-slice-aggregate-all-fit-2
 slice-aggregate-all-fit-2 c = search needs
 
 all-fit-requires : tie.Need-all-fit-requires
-all-fit-requires c κs = let k = c .before .before .before .before .before .before .before .before .before .before .pre in (rw (c .before .before .before .before .widths-of .ensures, c .before .before .before .values-of .ensures) refl, rw (c .before .before .before .before .widths-of .ensures) (narrow-message k))
+all-fit-requires c κs =
+    let w = c .before .before .before .before .widths-of .ensures in
+    let k = c .before .before .before .before .before .before .before .before .before .before .pre in
+    (rw (w, c .before .before .before .values-of .ensures) refl, rw w (narrow-message k))
 
 bits-lent-requires : tie.Need-bits-lent-requires
 bits-lent-requires c κs = search needs
@@ -59,7 +62,17 @@ fit-rules-requires : tie.Need-fit-rules-requires
 fit-rules-requires c κs = search needs
 
 returns : tie.Need-returns
-returns c = message-refused (c .before .before .before .before .before .before .before .before .before .before .before .before .before .before .args .ack) (c .before .before .before .before .before .before .before .before .before .before .before .before .before .before .args .flag) (c .before .before .before .before .before .before .before .before .before .before .before .before .before .before .args .n) (c .before .before .before .before .before .before .before .before .before .before .before .before .before .before .args .m) (c .before .before .before .before .before .before .before .before .before .before .before .before .before .before .args .user .now) (c .before .before .before .before .before .before .before .before .before .before .before .before .before .before .args .out .now) (c .before .before .before .before .before .before .before .before .before .before .before .before .before .before .pre) (c .before .before .before .before .before .before .before .before .before .before .before .data-at .ensures .0) (c .before .before .before .before .before .before .before .before .before .before .message-bits .ensures .0) (c .before .before .before .before .before .before .before .before .before .per .ensures) (c .before .before .before .before .before .before .before .before .widths-of .ensures) (c .before .before .before .before .before .before .before .values-of .ensures) (c .before .before .before .before .before .before .most-for .ensures) (c .before .before .before .all-fit .ensures) (c .before .before .bits-lent .ensures) (c .before .fit-rules .ensures) (c .if1 .taken)
+returns c =
+    let r = c .before in
+    let f = r .before .before in
+    let v = f .before .before .before .before in
+    let d = v .before .before .before .before in
+    let s = d .before .before .before in
+    let a = s .args in
+    message-refused (a .ack) (a .flag) (a .n) (a .m) (a .user .now) (a .out .now) (s .pre) (d .data-at .ensures .0)
+    (v .before .before .before .message-bits .ensures .0) (v .before .before .per .ensures) (v .before .widths-of .ensures)
+    (v .values-of .ensures) (f .before .before .before .most-for .ensures) (f .all-fit .ensures) (r .before .bits-lent .ensures)
+    (r .fit-rules .ensures) (c .if1 .taken)
 
 slice-aggregate-put-sdu : tie.Need-slice-aggregate-put-sdu
 slice-aggregate-put-sdu c = search needs
@@ -68,13 +81,33 @@ slice-aggregate-put-sdu-2 : tie.Need-slice-aggregate-put-sdu-2
 slice-aggregate-put-sdu-2 c = search needs
 
 put-sdu-requires : tie.Need-put-sdu-requires
-put-sdu-requires c κs = puts (c .before .before .before .before .before .before .before .before .before .before .before .before .before .before .before .before .before .args .ack) (c .before .before .before .before .before .before .before .before .before .before .before .before .before .before .before .before .before .args .flag) (c .before .before .before .before .before .before .before .before .before .before .before .before .before .before .before .before .before .args .n) (c .before .before .before .before .before .before .before .before .before .before .before .before .before .before .before .before .before .args .m) (c .before .before .before .before .before .before .before .before .before .before .before .before .before .before .before .before .before .args .user .now) (c .before .before .before .before .before .before .before .before .before .before .before .before .before .before .before .before .before .args .out .now) (c .before .before .before .before .before .before .before .before .before .before .before .before .before .before .before .before .before .pre) (c .before .before .before .before .before .before .before .before .before .before .before .before .before .before .data-at .ensures .0) (c .before .before .before .before .before .before .before .before .before .before .before .before .before .message-bits .ensures .0) (c .before .before .before .before .before .before .before .before .before .before .before .before .per .ensures) (c .before .before .before .before .before .before .before .before .before .before .before .widths-of .ensures) (c .before .before .before .before .before .before .before .before .before .before .values-of .ensures) (c .before .before .before .before .before .before .before .before .before .most-for .ensures) (c .before .before .before .before .before .before .all-fit .ensures) (c .before .before .before .before .before .bits-lent .ensures) (c .before .before .before .before .fit-rules .ensures) (c .before .before .before .if1 .left)
+put-sdu-requires c κs =
+    let r = c .before .before .before .before in
+    let f = r .before .before in
+    let v = f .before .before .before .before in
+    let d = v .before .before .before .before in
+    let s = d .before .before .before in
+    let a = s .args in
+    puts (a .ack) (a .flag) (a .n) (a .m) (a .user .now) (a .out .now) (s .pre) (d .data-at .ensures .0)
+    (v .before .before .before .message-bits .ensures .0) (v .before .before .per .ensures) (v .before .widths-of .ensures)
+    (v .values-of .ensures) (f .before .before .before .most-for .ensures) (f .all-fit .ensures) (r .before .bits-lent .ensures)
+    (r .fit-rules .ensures) (c .before .before .before .if1 .left)
 
 same-length : tie.Need-same-length
 same-length c = search needs
 
 returns-2 : tie.Need-returns-2
-returns-2 c = message-built (c .before .before .before .before .before .before .before .before .before .before .before .before .before .before .before .before .before .before .before .before .args .ack) (c .before .before .before .before .before .before .before .before .before .before .before .before .before .before .before .before .before .before .before .before .args .flag) (c .before .before .before .before .before .before .before .before .before .before .before .before .before .before .before .before .before .before .before .before .args .n) (c .before .before .before .before .before .before .before .before .before .before .before .before .before .before .before .before .before .before .before .before .args .m) (c .before .before .before .before .before .before .before .before .before .before .before .before .before .before .before .before .before .before .before .before .args .user .now) (c .before .before .before .before .before .before .before .before .before .before .before .before .before .before .before .before .before .before .before .before .args .out .now) (c .before .before .before .before .before .before .before .before .before .before .before .before .before .before .before .before .before .before .before .before .pre) (c .before .before .before .before .before .before .before .before .before .before .before .before .before .before .before .before .before .data-at .ensures .0) (c .before .before .before .before .before .before .before .before .before .before .before .before .before .before .before .before .message-bits .ensures .0) (c .before .before .before .before .before .before .before .before .before .before .before .before .before .before .before .per .ensures) (c .before .before .before .before .before .before .before .before .before .before .before .before .before .before .widths-of .ensures) (c .before .before .before .before .before .before .before .before .before .before .before .before .before .values-of .ensures) (c .before .before .before .before .before .before .before .before .before .before .before .before .most-for .ensures) (c .before .before .before .before .before .before .before .before .before .all-fit .ensures) (c .before .before .before .before .before .before .before .before .bits-lent .ensures) (c .before .before .before .before .before .before .before .fit-rules .ensures) (c .before .before .before .before .before .before .if1 .left) (c .before .before .put-sdu .ensures)
+returns-2 c =
+    let r = c .before .before .before .before .before .before .before in
+    let f = r .before .before in
+    let v = f .before .before .before .before in
+    let d = v .before .before .before .before in
+    let s = d .before .before .before in
+    let a = s .args in
+    message-built (a .ack) (a .flag) (a .n) (a .m) (a .user .now) (a .out .now) (s .pre) (d .data-at .ensures .0)
+    (v .before .before .before .message-bits .ensures .0) (v .before .before .per .ensures) (v .before .widths-of .ensures)
+    (v .values-of .ensures) (f .before .before .before .most-for .ensures) (f .all-fit .ensures) (r .before .bits-lent .ensures)
+    (r .fit-rules .ensures) (c .before .before .before .before .before .before .if1 .left) (c .before .before .put-sdu .ensures)
 
 pub build-message-spec : {M : Type 1} → statement M
 build-message-spec =

@@ -24,10 +24,14 @@ per-requires : tie.Need-per-requires
 per-requires c κs = search needs
 
 add-result-4 : tie.Need-add-result-4
-add-result-4 c = let l = per-le 11 (c .before .args .kind) 11 11 11 0 (omega arith) (omega arith) (omega arith) (omega arith) in omega (arith, c .per .ensures)
+add-result-4 c =
+    let l = per-le 11 (c .before .args .kind) 11 11 11 0 (omega arith) (omega arith) (omega arith) (omega arith) in
+    omega (arith, c .per .ensures)
 
 returns : tie.Need-returns
-returns c = let l = per-le 11 (c .before .args .kind) 11 11 11 0 (omega arith) (omega arith) (omega arith) (omega arith) in (rw (c .per .ensures) refl, omega (arith, c .per .ensures))
+returns c =
+    let l = per-le 11 (c .before .args .kind) 11 11 11 0 (omega arith) (omega arith) (omega arith) (omega arith) in
+    (rw (c .per .ensures) refl, omega (arith, c .per .ensures))
 
 pub data-at-spec : {M : Type 1} → statement M
 data-at-spec =

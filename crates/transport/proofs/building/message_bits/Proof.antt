@@ -12,16 +12,28 @@ mul-result : tie.Need-mul-result
 mul-result c = search needs
 
 add-result : tie.Need-add-result
-add-result c = let l = per-le 32 (c .before .args .kind) 24 32 32 16 (omega arith) (omega arith) (omega arith) (omega arith) in omega (arith, c .per .ensures)
+add-result c =
+    let l = per-le 32 (c .before .args .kind) 24 32 32 16 (omega arith) (omega arith) (omega arith) (omega arith) in
+    omega (arith, c .per .ensures)
 
 forward-width-requires : tie.Need-forward-width-requires
 forward-width-requires c κs = search needs
 
 add-result-2 : tie.Need-add-result-2
-add-result-2 c = let l = per-le 32 (c .before .before .args .kind) 24 32 32 16 (omega arith) (omega arith) (omega arith) (omega arith) in let f = forward-le (c .before .before .args .forward) in omega (arith, c .before .per .ensures, c .forward-width .ensures)
+add-result-2 c =
+    let a = c .before .before .args in
+    let l = per-le 32 (a .kind) 24 32 32 16 (omega arith) (omega arith) (omega arith) (omega arith) in
+    let f = forward-le (a .forward) in
+    omega (arith, c .before .per .ensures, c .forward-width .ensures)
 
 returns : tie.Need-returns
-returns c = let l = per-le 32 (c .before .before .args .kind) 24 32 32 16 (omega arith) (omega arith) (omega arith) (omega arith) in let f = forward-le (c .before .before .args .forward) in (rw (c .before .per .ensures, c .forward-width .ensures) refl, omega (arith, c .before .per .ensures, c .forward-width .ensures))
+returns c =
+    let a = c .before .before .args in
+    let p = c .before .per .ensures in
+    let w = c .forward-width .ensures in
+    let l = per-le 32 (a .kind) 24 32 32 16 (omega arith) (omega arith) (omega arith) (omega arith) in
+    let f = forward-le (a .forward) in
+    (rw (p, w) refl, omega (arith, p, w))
 
 pub message-bits-spec : {M : Type 1} → statement M
 message-bits-spec =

@@ -20,10 +20,18 @@ same-length : tie.Need-same-length
 same-length c = search needs
 
 returns : tie.Need-returns
-returns c = let a = c .before .before .before .before .before .before .before .before .args in c .before .before .put .ensures ∙ fcs-put (a .flag) (a .end) (c .before .before .before .before .fcs-of .result) (bitsOf (a .out .now)) (c .before .before .before .before .before .before .if1 .taken) (omega (arith, length-bitsOf (a .out .now))) (c .before .before .before .before .fcs-of .ensures)
+returns c =
+    let f = c .before .before .before .before in
+    let i = f .before .before in
+    let a = i .before .before .args in
+    c .before .before .put .ensures
+    ∙ fcs-put (a .flag) (a .end) (f .fcs-of .result) (bitsOf (a .out .now)) (i .if1 .taken)
+    (omega (arith, length-bitsOf (a .out .now))) (f .fcs-of .ensures)
 
 returns-2 : tie.Need-returns-2
-returns-2 c = let a = c .before .before .args in fcs-none (a .flag) (a .end) (bitsOf (a .out .now)) (c .if1 .left) (omega (arith, length-bitsOf (a .out .now)))
+returns-2 c =
+    let a = c .before .before .args in
+    fcs-none (a .flag) (a .end) (bitsOf (a .out .now)) (c .if1 .left) (omega (arith, length-bitsOf (a .out .now)))
 
 pub put-fcs-spec : {M : Type 1} → statement M
 put-fcs-spec =

@@ -44,7 +44,22 @@ same-length : tie.Need-same-length
 same-length c = search needs
 
 returns : tie.Need-returns
-returns c = let a = c .before .before .before .before .before .before .before .before .before .before .before .before .before .before .before .before .before .before .before .before .args in let k = c .before .before .before .before .before .before .before .before .before .before .before .before .before .before .before .before .before .before .before .before .pre in let u = take (a .n) (bitsOf (a .user .now)) in let p = pack (partsWith (a .widths .now) (a .values .now)) in sdu-put p u (a .first) (a .n) (a .flag) (a .out .now) (c .before .before .clear .last .0) (length-pack (partsWith (a .widths .now) (a .values .now)) ∙ k .elements) (length-sdu (a .n) (a .user .now) (k .lent)) (k .flagged) (k .room) (bitsOf (c .before .before .before .before .before .before .before .before .before .before .before .before .before .before .put-all .last .0)) (bitsOf (c .before .before .before .before .before .before .before .before .before .before .copy .last .1 .1 .0)) (bitsOf (c .before .before .before .before .before .before .put-fcs .last .0)) (c .before .before .before .before .before .before .before .before .before .before .before .before .before .before .put-all .ensures) (c .before .before .before .before .before .before .before .before .before .before .copy .ensures) (c .before .before .before .before .before .before .put-fcs .ensures) (c .before .before .clear .ensures) (all-bytes (a .out .now) (λ j. c .before .before .before .before .before .before .before .before .before .before .before .before .before .before .before .before .slice-known .given j .fits)) (all-bytes (c .before .before .clear .last .0) (λ j. c .slice-known5 .given j .fits))
+returns c =
+    let l = c .before .before in
+    let f = l .before .before .before .before in
+    let y = f .before .before .before .before in
+    let w = y .before .before .before .before in
+    let s = w .before .before .before .before .before .before in
+    let a = s .args in
+    let k = s .pre in
+    let u = take (a .n) (bitsOf (a .user .now)) in
+    let ps = partsWith (a .widths .now) (a .values .now) in
+    sdu-put (pack ps) u (a .first) (a .n) (a .flag) (a .out .now) (l .clear .last .0) (length-pack ps ∙ k .elements)
+    (length-sdu (a .n) (a .user .now) (k .lent)) (k .flagged) (k .room) (bitsOf (w .put-all .last .0))
+    (bitsOf (y .copy .last .1 .1 .0)) (bitsOf (f .put-fcs .last .0)) (w .put-all .ensures) (y .copy .ensures)
+    (f .put-fcs .ensures) (l .clear .ensures)
+    (all-bytes (a .out .now) (λ j. w .before .before .slice-known .given j .fits))
+    (all-bytes (l .clear .last .0) (λ j. c .slice-known5 .given j .fits))
 
 pub put-sdu-spec : {M : Type 1} → statement M
 put-sdu-spec =

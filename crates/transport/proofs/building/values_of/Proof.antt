@@ -62,7 +62,12 @@ cast-t25 : tie.Need-cast-t25
 cast-t25 c = omega (arith, c .struct-known13 .given)
 
 returns : tie.Need-returns
-returns c = rw (c .before .before .before .before .before .before .before .before .before .before .before .width .ensures, c .before .before .before .before .before .before .before .before .before .width2 .ensures, c .before .before .before .before .width3 .ensures) refl
+returns c =
+    rw (
+      c .before .before .before .before .before .before .before .before .before .before .before .width .ensures,
+      c .before .before .before .before .before .before .before .before .before .width2 .ensures,
+      c .before .before .before .before .width3 .ensures,
+    ) refl
 
 pub values-of-spec : {M : Type 1} → statement M
 values-of-spec =

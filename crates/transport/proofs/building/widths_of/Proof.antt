@@ -66,10 +66,25 @@ forward-width-requires : tie.Need-forward-width-requires
 forward-width-requires c κs = search needs
 
 cast-t26 : tie.Need-cast-t26
-cast-t26 c = let l = forward-le (c .before .before .before .before .before .before .before .before .before .before .before .args .forward) in rw (c .forward-width .ensures) (record { fits = omega arith })
+cast-t26 c =
+    let l = forward-le (c .before .before .before .before .before .before .before .before .before .before .before .args .forward) in
+    rw (c .forward-width .ensures) (record { fits = omega arith })
 
 returns : tie.Need-returns
-returns c = rw (c .before .before .before .before .before .before .before .before .before .before .width .ensures, c .before .before .before .before .before .before .before .before .before .width2 .ensures, c .before .before .before .before .before .before .before .before .width3 .ensures, c .before .before .before .before .before .before .before .width4 .ensures, c .before .before .before .before .before .before .width5 .ensures, c .before .before .before .before .before .width6 .ensures, c .before .before .before .before .width7 .ensures, c .before .before .before .width8 .ensures, c .before .before .width9 .ensures, c .before .width10 .ensures, c .forward-width .ensures) refl
+returns c =
+    rw (
+      c .before .before .before .before .before .before .before .before .before .before .width .ensures,
+      c .before .before .before .before .before .before .before .before .before .width2 .ensures,
+      c .before .before .before .before .before .before .before .before .width3 .ensures,
+      c .before .before .before .before .before .before .before .width4 .ensures,
+      c .before .before .before .before .before .before .width5 .ensures,
+      c .before .before .before .before .before .width6 .ensures,
+      c .before .before .before .before .width7 .ensures,
+      c .before .before .before .width8 .ensures,
+      c .before .before .width9 .ensures,
+      c .before .width10 .ensures,
+      c .forward-width .ensures,
+    ) refl
 
 pub widths-of-spec : {M : Type 1} → statement M
 widths-of-spec =

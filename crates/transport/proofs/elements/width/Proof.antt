@@ -8,7 +8,11 @@ per-requires : tie.Need-per-requires
 per-requires c κs = search needs
 
 cast-result : tie.Need-cast-result
-cast-result c = let a = c .before .args in let l = per-le 255 (a .kind) (a .transfer) (a .report) (a .ack) (a .short) (omega arith) (omega arith) (omega arith) (omega arith) in rw (c .per .ensures) (record { fits = omega arith })
+cast-result c =
+    let a = c .before .args in
+    let l = per-le 255 (a .kind) (a .transfer) (a .report) (a .ack) (a .short) (omega arith) (omega arith)
+    (omega arith) (omega arith) in
+    rw (c .per .ensures) (record { fits = omega arith })
 
 returns : tie.Need-returns
 returns c = search needs
