@@ -17,11 +17,23 @@ use Rattle.demands.specs.Examples.{Example, _gives_, AllHold, hold}
 abbrev fcs : List Bool → List ℕ
 fcs m = num (fcsOf m) ∷ []
 
--- What is read of w bits, given as one number, in a header of this message type with this FCS flag: the fault, the kind, the calling party's SSI, the
--- protocol identifier, storage, the status, the reference, the forward address, and the user data's first bit and number.
+-- What is read of w bits, given as one number, in a header of this message type with this FCS flag: the fault, the
+-- kind, the calling party's SSI, the protocol identifier, storage, the status, the reference, the forward address, and
+-- the user data's first bit and number.
 abbrev shown : Transport → List ℕ
 shown r =
-    r .fault ∷ r .message .kind ∷ r .message .ssi ∷ r .message .protocol ∷ r .message .storage ∷ r .message .status ∷ r .message .reference ∷ r .message .address ∷ r .first ∷ r .bits ∷ []
+    let m = r .message in
+    r .fault ∷
+    m .kind ∷
+    m .ssi ∷
+    m .protocol ∷
+    m .storage ∷
+    m .status ∷
+    m .reference ∷
+    m .address ∷
+    r .first ∷
+    r .bits ∷
+    []
 
 abbrev read : ℕ → ℕ → ℕ → ℕ → List ℕ
 read carrier flag w v = shown (readBits carrier flag (bitsN w v))
@@ -98,7 +110,8 @@ ack =
     }
 
 abbrev ackBits : ℕ
-ackBits = 0b1_0001_000000000000001110000101_000000000001001110001001_0011_00000100000_10000010_0010_0000_00000010_00000111
+ackBits =
+    0b1_0001_000000000000001110000101_000000000001001110001001_0011_00000100000_10000010_0010_0000_00000010_00000111
 
 abbrev shortReport : Message
 shortReport =
@@ -126,6 +139,14 @@ shortBits = 0b0_0100_011111_10_00000101_00011000011111101001010010100101
 abbrev shortInAck : ℕ
 shortInAck = 0b0001_0100_011111_10_00000101_10100100100111001010111001110101
 
+-- The first with another reference under the same FCS.
+abbrev damagedBits : ℕ
+damagedBits = 0b0_0100_011111_10_00000100_00011000011111101001010010100101
+
+-- A refusal: the number, and nine zeros.
+abbrev refused : ℕ → List ℕ
+refused fault = fault ∷ replicate 9 0
+
 abbrev pub examples : List Example
 examples =
     (fcs (bitsOf (0x31 ∷ 0x32 ∷ 0x33 ∷ 0x34 ∷ 0x35 ∷ 0x36 ∷ 0x37 ∷ 0x38 ∷ 0x39 ∷ [])) gives 0xfc891918 ∷ []) ∷
@@ -146,9 +167,9 @@ examples =
     (built 24 1 shortReport [] gives 56 ∷ shortInAck ∷ []) ∷
     (read 24 1 56 shortInAck gives 0 ∷ 4 ∷ 0 ∷ 0 ∷ 0 ∷ 2 ∷ 5 ∷ 0 ∷ 0 ∷ 0 ∷ []) ∷
     -- Too short to tell; shorter than its elements; an FCS that is wrong.
-    (read 23 0 27 0b0_0011_00000100000_10000010_000 gives 21 ∷ 0 ∷ 0 ∷ 0 ∷ 0 ∷ 0 ∷ 0 ∷ 0 ∷ 0 ∷ 0 ∷ []) ∷
-    (read 23 0 28 0b0_0011_00000100000_10000010_0000 gives 22 ∷ 0 ∷ 0 ∷ 0 ∷ 0 ∷ 0 ∷ 0 ∷ 0 ∷ 0 ∷ 0 ∷ []) ∷
-    (read 23 1 53 0b0_0100_011111_10_00000100_00011000011111101001010010100101 gives 21 ∷ 0 ∷ 0 ∷ 0 ∷ 0 ∷ 0 ∷ 0 ∷ 0 ∷ 0 ∷ 0 ∷ []) ∷
+    (read 23 0 27 0b0_0011_00000100000_10000010_000 gives refused 21) ∷
+    (read 23 0 28 0b0_0011_00000100000_10000010_0000 gives refused 22) ∷
+    (read 23 1 53 damagedBits gives refused 21) ∷
     []
 
 pub examples-hold : AllHold examples

@@ -65,34 +65,41 @@ readChecks carrier elements n sdu =
 
 -- ---- The answer.
 
-abbrev pub messageOf : Shape → List Bool → Message
-messageOf q b =
+-- The message of this shape whose element k has the value v k.
+abbrev pub messageWith : Shape → (ℕ → ℕ) → Message
+messageWith q v =
     record {
       kind = q .kind;
       addressed = q .addressed;
-      mni = elementIn 3 q b;
-      ssi = elementIn 4 q b;
-      protocol = elementIn 7 q b;
-      request = elementIn 9 q b;
-      short = elementIn 10 q b;
-      required = elementIn 11 q b;
+      mni = v 3;
+      ssi = v 4;
+      protocol = v 7;
+      request = v 9;
+      short = v 10;
+      required = v 11;
       storage = q .storage;
-      status = elementIn 15 q b;
-      reference = elementIn 16 q b;
-      validity = elementIn 17 q b;
+      status = v 15;
+      reference = v 16;
+      validity = v 17;
       forward = q .forward;
-      address = elementIn 19 q b;
+      address = v 19;
     }
 
--- The message; the first bit of its user data and their number, which an ack and a short report do not have.
-abbrev pub transportOf : Shape → List Bool → Transport
-transportOf q b =
+-- With it, where its data end at bit `end`, the first bit of its user data and their number, which an ack and a short
+-- report do not have.
+abbrev pub transportWith : Shape → (ℕ → ℕ) → ℕ → Transport
+transportWith q v end =
+    let n = end - at 20 q in
     record {
       fault = 0;
-      message = messageOf q b;
+      message = messageWith q v;
       first = per (q .kind) (at 20 q) (at 20 q) 0 0;
-      bits = per (q .kind) (endIn q b - at 20 q) (endIn q b - at 20 q) 0 0;
+      bits = per (q .kind) n n 0 0;
     }
+
+-- As it was read.
+abbrev pub transportOf : Shape → List Bool → Transport
+transportOf q b = transportWith q (λ k. elementIn k q b) (endIn q b)
 
 abbrev pub noMessage : Message
 noMessage =

@@ -9,7 +9,7 @@ use Rattle.bits.specs.Layout.{pack, partsWith, partsIn, element}
 use Rattle.fcs.specs.Annex.{fcsOf}
 use Rattle.transport.specs.Layouts.{ackOf, per, forwardWidth, Shape, layout, at, endOf}
 use Rattle.transport.specs.Layouts.{sdtiOf, typeOf, beginningOf}
-use Rattle.transport.specs.Reading.{direct}
+use Rattle.transport.specs.Reading.{direct, transportWith}
 use Rattle.transport.specs.Building.{shapeFor, lengthFor, valuesFor, mostFor, bitsFor}
 use Rattle.transport.specs.declared.Message.{Message}
 use Rattle.transport.specs.declared.Transport.{Transport}
@@ -50,36 +50,9 @@ pub record ReadsWell (carrier flag : ℕ) (b : List Bool) : Type 0 where
   pub there : endAt form b + 32 * flag ≤ length b
   pub check : flag ≡ 1 → take 32 (drop (endAt form b) b) ≡ fcsOf (take (endAt form b) b)
 
--- The message whose elements stand there.
-abbrev pub messageAt : Shape → List Bool → Message
-messageAt q b =
-    record {
-      kind = q .kind;
-      addressed = q .addressed;
-      mni = stands 3 q b;
-      ssi = stands 4 q b;
-      protocol = stands 7 q b;
-      request = stands 9 q b;
-      short = stands 10 q b;
-      required = stands 11 q b;
-      storage = q .storage;
-      status = stands 15 q b;
-      reference = stands 16 q b;
-      validity = stands 17 q b;
-      forward = q .forward;
-      address = stands 19 q b;
-    }
-
--- The answer with it: its user data begin where the elements end; an ack and a short report have none.
+-- The answer with the elements that stand there.
 abbrev pub transportAt : Shape → List Bool → Transport
-transportAt q b =
-    let n = endAt q b - at 20 q in
-    record {
-      fault = 0;
-      message = messageAt q b;
-      first = per (q .kind) (at 20 q) (at 20 q) 0 0;
-      bits = per (q .kind) n n 0 0;
-    }
+transportAt q b = transportWith q (λ k. stands k q b) (endAt q b)
 
 -- ---- Every bit.
 
