@@ -228,7 +228,8 @@ module _ (carrier flag : ℕ) (m : Message) (n : ℕ) (user out : List ℕ)
   pub sdu-output : outOf carrier flag m n user out ≡ handed sdu out
   sdu-output = range-out user out build-shows
 
-  pub sdu-out : take (sduOf carrier flag m n (length user) (length out) .bits) (bitsOf (outOf carrier flag m n user out))
+  pub sdu-out : take (sduOf carrier flag m n (length user) (length out) .bits)
+      (bitsOf (outOf carrier flag m n user out))
       ≡ sdu
   sdu-out = rw (sdu-answer, sdu-output) (handed-bits sdu out)
 

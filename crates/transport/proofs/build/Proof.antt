@@ -71,8 +71,9 @@ returns-3 c =
     let a = k .before .before .before .args in
     build-rest (a .carrier) (a .fcs) (a .n) (a .message) (a .user .now) (a .out .now) (k .ack-of .ensures)
     (r .before .before .width .ensures) (r .before .stored-holds .ensures) (r .kind-rules .ensures) (i .if1 .left)
-    (f .before .before .per .ensures) (f .before .bits-lent .ensures) (f .flag-rules .ensures) (c .before .before .before .before .if2 .left)
-    (c .before .before .build-message .ensures .0) (c .before .before .build-message .ensures .1)
+    (f .before .before .per .ensures) (f .before .bits-lent .ensures) (f .flag-rules .ensures)
+    (c .before .before .before .before .if2 .left) (c .before .before .build-message .ensures .0)
+    (c .before .before .build-message .ensures .1)
 
 pub build-spec : {M : Type 1} → statement M
 build-spec =

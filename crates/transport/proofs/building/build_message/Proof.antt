@@ -70,9 +70,9 @@ returns c =
     let s = d .before .before .before in
     let a = s .args in
     message-refused (a .ack) (a .flag) (a .n) (a .m) (a .user .now) (a .out .now) (s .pre) (d .data-at .ensures .0)
-    (v .before .before .before .message-bits .ensures .0) (v .before .before .per .ensures) (v .before .widths-of .ensures)
-    (v .values-of .ensures) (f .before .before .before .most-for .ensures) (f .all-fit .ensures) (r .before .bits-lent .ensures)
-    (r .fit-rules .ensures) (c .if1 .taken)
+    (v .before .before .before .message-bits .ensures .0) (v .before .before .per .ensures)
+    (v .before .widths-of .ensures) (v .values-of .ensures) (f .before .before .before .most-for .ensures)
+    (f .all-fit .ensures) (r .before .bits-lent .ensures) (r .fit-rules .ensures) (c .if1 .taken)
 
 slice-aggregate-put-sdu : tie.Need-slice-aggregate-put-sdu
 slice-aggregate-put-sdu c = search needs
@@ -89,9 +89,9 @@ put-sdu-requires c κs =
     let s = d .before .before .before in
     let a = s .args in
     puts (a .ack) (a .flag) (a .n) (a .m) (a .user .now) (a .out .now) (s .pre) (d .data-at .ensures .0)
-    (v .before .before .before .message-bits .ensures .0) (v .before .before .per .ensures) (v .before .widths-of .ensures)
-    (v .values-of .ensures) (f .before .before .before .most-for .ensures) (f .all-fit .ensures) (r .before .bits-lent .ensures)
-    (r .fit-rules .ensures) (c .before .before .before .if1 .left)
+    (v .before .before .before .message-bits .ensures .0) (v .before .before .per .ensures)
+    (v .before .widths-of .ensures) (v .values-of .ensures) (f .before .before .before .most-for .ensures)
+    (f .all-fit .ensures) (r .before .bits-lent .ensures) (r .fit-rules .ensures) (c .before .before .before .if1 .left)
 
 same-length : tie.Need-same-length
 same-length c = search needs
@@ -105,9 +105,10 @@ returns-2 c =
     let s = d .before .before .before in
     let a = s .args in
     message-built (a .ack) (a .flag) (a .n) (a .m) (a .user .now) (a .out .now) (s .pre) (d .data-at .ensures .0)
-    (v .before .before .before .message-bits .ensures .0) (v .before .before .per .ensures) (v .before .widths-of .ensures)
-    (v .values-of .ensures) (f .before .before .before .most-for .ensures) (f .all-fit .ensures) (r .before .bits-lent .ensures)
-    (r .fit-rules .ensures) (c .before .before .before .before .before .before .if1 .left) (c .before .before .put-sdu .ensures)
+    (v .before .before .before .message-bits .ensures .0) (v .before .before .per .ensures)
+    (v .before .widths-of .ensures) (v .values-of .ensures) (f .before .before .before .most-for .ensures)
+    (f .all-fit .ensures) (r .before .bits-lent .ensures) (r .fit-rules .ensures)
+    (c .before .before .before .before .before .before .if1 .left) (c .before .before .put-sdu .ensures)
 
 pub build-message-spec : {M : Type 1} → statement M
 build-message-spec =

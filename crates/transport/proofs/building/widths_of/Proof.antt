@@ -67,7 +67,8 @@ forward-width-requires c κs = search needs
 
 cast-t26 : tie.Need-cast-t26
 cast-t26 c =
-    let l = forward-le (c .before .before .before .before .before .before .before .before .before .before .before .args .forward) in
+    let a = c .before .before .before .before .before .before .before .before .before .before .before .args in
+    let l = forward-le (a .forward) in
     rw (c .forward-width .ensures) (record { fits = omega arith })
 
 returns : tie.Need-returns
