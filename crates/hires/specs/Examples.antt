@@ -173,5 +173,6 @@ examples =
     []
 
 pub examples-hold : AllHold examples
-unfolding bit num bitsN bitsOf testBit xor mixed times lead step remainder generator started remainderOf fcsOf addressedIn kindInData kindIn storageIn forwardIn readBits frameBits builtBits
+unfolding bit num bitsN bitsOf testBit xor mixed times lead step remainder generator started remainderOf fcsOf
+    addressedIn kindInData kindIn storageIn forwardIn readBits frameBits builtBits
 examples-hold = hold examples tt
