@@ -24,7 +24,7 @@ use Rattle.demands.specs.Calls.{Call}
 use Rattle.demands.proofs.Demand3Holds.{demand3}
 
 -- a call whose fault is the first number given
-settles : (rules : List ℕ) {fault : ℕ} {Refused : ℕ → Type 0} → fault ≡ firstOf rules → ((n : ℕ) → firstOf rules ≡ suc n → Refused (suc n)) → Settles rules fault Refused
+pub settles : (rules : List ℕ) {fault : ℕ} {Refused : ℕ → Type 0} → fault ≡ firstOf rules → ((n : ℕ) → firstOf rules ≡ suc n → Refused (suc n)) → Settles rules fault Refused
 settles rules e r = record { first = e; given = λ n z. given-first n rules (sym e ∙ z); refused = λ n z. r n (sym e ∙ z) }
 
 header-fault : (n : ℕ) (r : Header) → r .fault ≡ 0 → header.answered n r .fault ≡ n

@@ -20,7 +20,7 @@ use Rattle.ends.specs.Delivered.{Delivered}
 use Rattle.ends.proofs.EndToEndHolds.{end-to-end}
 
 -- reports, side by side
-reports-append : (s : Settings) (a b : Line Lent) → reports s (a ⧺ b) ≡ reports s a ⧺ reports s b
+pub reports-append : (s : Settings) (a b : Line Lent) → reports s (a ⧺ b) ≡ reports s a ⧺ reports s b
 reports-append s a start = refl
 reports-append s a (b ▸ l) = ap (λ (h : History). h ▸ reportOf s l) (reports-append s a b)
 

@@ -37,7 +37,7 @@ regroup : (hs : History) (x : Report) (rs : History) → hs ⧺ ((start ▸ x) �
 regroup hs x start = refl
 regroup hs x (rs ▸ r) = ap (λ (h : History). h ▸ r) (regroup hs x rs)
 
-silent : (s : Settings) (q : Place) → heard s (nothing-lent q) ≡ nothing
+pub silent : (s : Settings) (q : Place) → heard s (nothing-lent q) ≡ nothing
 unfolding heard
 silent s q = refl
 

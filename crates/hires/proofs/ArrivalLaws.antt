@@ -22,10 +22,11 @@ use Rattle.ends.specs.EndToEnd as ends
 use Rattle.ends.specs.EndToEnd.{Handed, header-lent}
 use Rattle.ends.proofs.HeardLaws.{range}
 use Rattle.ends.proofs.EndToEndHolds.{end-to-end}
+use Rattle.ends.proofs.DeliveredHolds.{reports-append}
 use Rattle.hires.specs.Program.{Step, accepted, calls, Program, messageIn}
 use Rattle.hires.specs.June.{Hire, message, userBits, Arrives, readBack, BookedAs}
 use Rattle.hires.proofs.HandedLaws.{Whole, readIn, reading-is}
-use Rattle.hires.proofs.ProgramLaws.{calls-append, reports-append, handed-on, in-full}
+use Rattle.hires.proofs.ProgramLaws.{calls-append, handed-on, in-full}
 
 -- ---- one call
 

@@ -25,9 +25,11 @@ use Rattle.ends.specs.EndToEnd as sent
 use Rattle.ends.specs.EndToEnd.{Message, Build, k, header-lent, nothing-lent, block-lent, due-slot, Sent, Handed}
 use Rattle.ends.specs.EndToEnd.{with-outcome, handed, header-report, all-reports, so-far}
 use Rattle.ends.proofs.HeardLaws.{meant, fragmented-heard, unfragmented-heard}
+use Rattle.ends.proofs.DeliveredHolds.{reports-append}
+use Rattle.ends.proofs.EndToEndHolds.{silent}
 use Rattle.hires.specs.Program.{Step, accepted, calls, Program, messageIn}
 use Rattle.hires.specs.June.{Hire, message}
-use Rattle.hires.proofs.ProgramLaws.{reports-append, handed-on}
+use Rattle.hires.proofs.ProgramLaws.{handed-on}
 
 -- ---- the receiver
 
@@ -89,10 +91,6 @@ unfolding after step
 drops hs r h more f n e = rw (e, n) refl
 
 -- ---- what is sent to another unit
-
-silent : (s : Settings) (q : Place) → heard s (nothing-lent q) ≡ nothing
-unfolding heard
-silent s q = refl
 
 continues : (f : ℕ) (t : Bool) (x : List Bool) → NotForUs (unfaulted f (cond t (end x) (frag x)))
 continues zero true x = tt

@@ -31,6 +31,7 @@ use Rattle.bookings.proofs.CallLaws.{earlier-in-turn}
 use Rattle.bookings.proofs.IndexHolds.{over-calls}
 use Rattle.ends.specs.EndToEnd as ends
 use Rattle.ends.specs.EndToEnd.{Handed, with-outcome}
+use Rattle.ends.proofs.DeliveredHolds.{reports-append}
 use Rattle.hires.specs.Program.{Hearing, HandsOver, handedOn, Step, quiet, books, hearing, accepted}
 use Rattle.hires.specs.Program.{calls, receiverAfter, HearsInTurn, Program, messageIn, transfersIn}
 use Rattle.hires.proofs.HandedLaws.{handed-lent, Whole, inLent, transfers-in}
@@ -174,10 +175,6 @@ module _ (s : Settings) (ls : Line Lent) where
   whole-on (books h y c e) xs k z w = (w, rw e (whole-handed h k z))
 
 -- ---- what the program hands on
-
-pub reports-append : (s : Settings) (a b : Line Lent) → reports s (a ⧺ b) ≡ reports s a ⧺ reports s b
-reports-append s a start = refl
-reports-append s a (b ▸ l) = ap (λ (h : History). h ▸ reportOf s l) (reports-append s a b)
 
 module _ (s : Settings) where
   handed-when : (before xs : Line Step) (x : Step) → Leads s (accepted before ⧺ accepted xs) (hearing x .before)

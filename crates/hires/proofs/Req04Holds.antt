@@ -10,7 +10,6 @@ use lib.ListN.{length, take, drop}
 use borrow.Author.Tests.{eqb-true}
 use Rattle.bits.specs.Bits.{bitsOf}
 use Rattle.blocks.specs.Faults.{unless, firstOf}
-use Rattle.blocks.proofs.FaultLaws.{given-first}
 use Rattle.store.specs.Store.{handed}
 use Rattle.history.specs.Line.{Line, _▸_, _⧺_}
 use Rattle.history.proofs.OpenRun.{and-true}
@@ -33,17 +32,12 @@ use Rattle.bookings.specs.Calls.{Call, mark, pair, InTurn, marked, transfers}
 use Rattle.bookings.proofs.CallLaws.{earlier-in-turn, transfers-append}
 use Rattle.bookings.proofs.IndexHolds.{over-transfers, over-calls}
 use Rattle.demands.specs.Demand1.{Settles}
+use Rattle.demands.proofs.Demand1Holds.{settles}
 use Rattle.hires.specs.Req04.{Reads, found, readRules, bitsRead, flagRead, shapeRead}
 use Rattle.hires.specs.Req04.{Builds, buildAgain, answer, after, buildRules}
 use Rattle.hires.specs.Req04.{userBits, built, back, bookRules, Req04}
 
 -- ---- refusals
-
--- a call whose fault is the first number given
-settles : (rules : List ℕ) {fault : ℕ} {Refused : ℕ → Type 0} → fault ≡ firstOf rules
-    → ((n : ℕ) → firstOf rules ≡ suc n → Refused (suc n)) → Settles rules fault Refused
-settles rules e r =
-    record { first = e; given = λ n z. given-first n rules (sym e ∙ z); refused = λ n z. r n (sym e ∙ z) }
 
 answered-fault : (n : ℕ) (t : Transport) → t .fault ≡ 0 → answered n t .fault ≡ n
 answered-fault zero t e = e
