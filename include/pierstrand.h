@@ -198,19 +198,26 @@ struct pierstrand_receiver {
 		uint8_t slot;
 	} place;
 	struct {
-		uint8_t held;
-		uint64_t raw[2];
+		struct {
+			uint64_t high;
+			uint64_t low;
+		} raw;
 		uint8_t again;
 	} nearest;
 	struct {
-		uint8_t held;
-		struct pierstrand_fields fields;
-		uint64_t raw[2];
-		uint8_t again;
-		uint8_t more;
-		uint8_t frame;
-		uint8_t countdown;
-		uint8_t kept;
+		struct {
+			struct pierstrand_fields fields;
+			struct {
+				uint64_t high;
+				uint64_t low;
+			} raw;
+			uint8_t held;
+			uint8_t again;
+			uint8_t more;
+			uint8_t frame;
+			uint8_t countdown;
+			uint8_t kept;
+		} run;
 		size_t bits;
 		uint8_t store[PIERSTRAND_MESSAGE];
 	} assembly;

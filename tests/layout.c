@@ -39,11 +39,11 @@ struct shape {
 #define RECEIVER(type, in) \
 	FIELD(type, in settings.individual), FIELD(type, in settings.group), FIELD(type, in settings.mni), \
 	FIELD(type, in place.frame), FIELD(type, in place.slot), \
-	FIELD(type, in nearest.held), FIELD(type, in nearest.raw), FIELD(type, in nearest.again), \
-	FIELD(type, in assembly.held), FIELDS(type, in assembly.fields.), FIELD(type, in assembly.raw), \
-	FIELD(type, in assembly.again), FIELD(type, in assembly.more), FIELD(type, in assembly.frame), \
-	FIELD(type, in assembly.countdown), FIELD(type, in assembly.kept), FIELD(type, in assembly.bits), \
-	FIELD(type, in assembly.store)
+	FIELD(type, in nearest.raw.high), FIELD(type, in nearest.raw.low), FIELD(type, in nearest.again), \
+	FIELDS(type, in assembly.run.fields.), FIELD(type, in assembly.run.raw.high), FIELD(type, in assembly.run.raw.low), \
+	FIELD(type, in assembly.run.held), FIELD(type, in assembly.run.again), FIELD(type, in assembly.run.more), \
+	FIELD(type, in assembly.run.frame), FIELD(type, in assembly.run.countdown), FIELD(type, in assembly.run.kept), \
+	FIELD(type, in assembly.bits), FIELD(type, in assembly.store)
 
 #define MESSAGE(type, in) \
 	FIELD(type, in kind), FIELD(type, in addressed), FIELD(type, in mni), FIELD(type, in ssi), FIELD(type, in protocol), \
@@ -79,9 +79,9 @@ static const struct pierstrand_built set_built = {1, 2};
 static const struct pierstrand_due set_due = {1, 2};
 static const struct pierstrand_answer set_answer = {1, 2, 3, 4, {{5, 6}, {7, 8}, 9, 10, 11, 12}};
 static const struct pierstrand_receiver set_receiver = {
-	{1, 2, 3}, {4, 5}, {6, {7}, 8}, {9, {{10, 11}, {12, 13}, 14, 15, 16, 17}, {18}, 19, 20, 21, 22, 23, 24, {25}}};
+	{1, 2, 3}, {4, 5}, {{6, 7}, 8}, {{{{9, 10}, {11, 12}, 13, 14, 15, 16}, {17, 18}, 19, 20, 21, 22, 23, 24}, 25, {26}}};
 static const struct pierstrand_fresh set_fresh = {
-	1, {{2, 3, 4}, {5, 6}, {7, {8}, 9}, {10, {{11, 12}, {13, 14}, 15, 16, 17, 18}, {19}, 20, 21, 22, 23, 24, 25, {26}}}};
+	1, {{2, 3, 4}, {5, 6}, {{7, 8}, 9}, {{{{10, 11}, {12, 13}, 14, 15, 16, 17}, {18, 19}, 20, 21, 22, 23, 24, 25}, 26, {27}}}};
 
 static const struct pierstrand_message set_message = {1, 2, 3, 4, 5, 6, 7, 8, 9, 10, 11, 12, 13, 14};
 static const struct pierstrand_transport set_transport = {1, {2, 3, 4, 5, 6, 7, 8, 9, 10, 11, 12, 13, 14, 15}, 16, 17};
@@ -427,22 +427,22 @@ static const uint8_t *answer_of(uint8_t frame, uint8_t slot, uint8_t kind, const
 #define HEARD(frame, slot, header) answer_of(frame, slot, PIERSTRAND_HEADER, header, HEADER_BYTES, PIERSTRAND_MESSAGE)
 #define SILENCE(frame, slot) answer_of(frame, slot, PIERSTRAND_SILENCE, text, 0, PIERSTRAND_MESSAGE)
 
-/* ---- The arrays of a receiver. */
+/* ---- The parts of a receiver. */
 
-/* An SCH/H without its countdown, two bits at `bit`: two numbers of 64 bits. */
-static void raw_is(size_t at, const uint8_t *both, unsigned bit)
+/* 64 bits of an SCH/H, from its byte `from` on. */
+static uint64_t half(const uint8_t *both, size_t from)
 {
-	uint64_t raw[2] = {0, 0};
-	size_t i;
+	uint64_t it = 0;
 
-	for (i = 0; i < PIERSTRAND_SCH_H; i++)
-		raw[i / 8] = raw[i / 8] << 8 | both[PIERSTRAND_SCH_S + i];
-	raw[0] &= ~((uint64_t)3 << (62 - bit));
-	IS(memcmp(in(&receivers[0]) + at, raw, sizeof raw), 0);
+	for (size_t i = 0; i < 8; i++)
+		it = it << 8 | both[PIERSTRAND_SCH_S + from + i];
+	return it;
 }
 
-#define NEAREST_RAW offsetof(struct pierstrand_receiver, nearest.raw)
-#define ASSEMBLY_RAW offsetof(struct pierstrand_receiver, assembly.raw)
+/* An SCH/H without its countdown, two bits at `bit`: two numbers of 64 bits. */
+#define RAW(both, bit) half(both, 0) & ~((uint64_t)3 << (62 - (bit))), half(both, 8)
+#define SHORT_RAW RAW(short_header, 12)
+#define LONG_RAW RAW(long_header, 16)
 
 /* The first `bits` of the text, and 0 after them. */
 static void store_has(size_t bits)
@@ -505,7 +505,8 @@ static void reads(void)
 }
 
 #define SETTINGS INDIVIDUAL, GROUP, MNI
-#define NO_ASSEMBLY 0, NO_FIELDS, 0, 0, 0, 0, 0, 0, 0, 0
+#define NO_ASSEMBLY NO_FIELDS, 0, 0, 0, 0, 0, 0, 0, 0, 0, 0
+#define LONG_OPEN(again, kept, bits) LONG_FIELDS, LONG_RAW, 1, again, 8, 13, 3, kept, bits, 0
 #define RECEIVER_HOLDS(...) HOLDS(receiver, in(&receivers[0]), SETTINGS, __VA_ARGS__)
 
 static void hears(void)
@@ -526,19 +527,15 @@ static void hears(void)
 
 	/* The short message: the nearest header, and no assembly. Then a break. */
 	HOLDS(answer, HEARD(13, 3, short_header), PIERSTRAND_UNFRAGMENTED, 0, 0, SHORT_BITS, SHORT_FIELDS);
-	RECEIVER_HOLDS(13, 3, 1, 0, 3, NO_ASSEMBLY);
-	raw_is(NEAREST_RAW, short_header, 12);
+	RECEIVER_HOLDS(13, 3, SHORT_RAW, 3, NO_ASSEMBLY);
 	HOLDS(answer, SILENCE(12, 3), PIERSTRAND_NOTHING, 0, 0, 0, NO_FIELDS);
 	RECEIVER_HOLDS(12, 3, 0, 0, 0, NO_ASSEMBLY);
 
 	/* The long one begins, and the short one comes between. */
 	HOLDS(answer, HEARD(13, 1, long_header), PIERSTRAND_OPENED, 0, 0, 0, NO_FIELDS);
-	RECEIVER_HOLDS(13, 1, 1, 0, 4, 1, LONG_FIELDS, 0, 4, 8, 13, 3, 0, 3, 0);
-	raw_is(NEAREST_RAW, long_header, 16);
+	RECEIVER_HOLDS(13, 1, LONG_RAW, 4, LONG_OPEN(4, 0, 3));
 	HOLDS(answer, HEARD(13, 3, short_header), PIERSTRAND_UNFRAGMENTED, 0, 0, SHORT_BITS, SHORT_FIELDS);
-	RECEIVER_HOLDS(13, 3, 1, 0, 3, 1, LONG_FIELDS, 0, 4, 8, 13, 3, 0, 3, 0);
-	raw_is(NEAREST_RAW, short_header, 12);
-	raw_is(ASSEMBLY_RAW, long_header, 16);
+	RECEIVER_HOLDS(13, 3, SHORT_RAW, 3, LONG_OPEN(4, 0, 3));
 	store_has(3);
 
 	/* Refused: the receiver is as before. */
@@ -546,8 +543,7 @@ static void hears(void)
 	HOLDS(answer, answer_of(14, 2, PIERSTRAND_SILENCE, text, 0, PIERSTRAND_MESSAGE), 0, 0, PIERSTRAND_REPORT_SLOT, 0, NO_FIELDS);
 	HOLDS(answer, answer_of(14, 1, PIERSTRAND_SILENCE, text, 1, PIERSTRAND_MESSAGE), 0, 0, PIERSTRAND_LENGTH, 0, NO_FIELDS);
 	HOLDS(answer, answer_of(14, 1, PIERSTRAND_SILENCE, text, 0, PIERSTRAND_MESSAGE - 1), 0, 0, PIERSTRAND_BUFFER, 0, NO_FIELDS);
-	RECEIVER_HOLDS(13, 3, 1, 0, 3, 1, LONG_FIELDS, 0, 4, 8, 13, 3, 0, 3, 0);
-	raw_is(ASSEMBLY_RAW, long_header, 16);
+	RECEIVER_HOLDS(13, 3, SHORT_RAW, 3, LONG_OPEN(4, 0, 3));
 	store_has(3);
 
 	/* A header that names another frame; then nothing, up to the first due slot. */
@@ -557,7 +553,7 @@ static void hears(void)
 	SILENCE(15, 3);
 	SILENCE(16, 1);
 	HOLDS(answer, SILENCE(16, 3), PIERSTRAND_NOTHING, 0, 0, 0, NO_FIELDS);
-	RECEIVER_HOLDS(16, 3, 1, 0, 0, 1, LONG_FIELDS, 0, 1, 8, 13, 3, 0, 3, 0);
+	RECEIVER_HOLDS(16, 3, SHORT_RAW, 0, LONG_OPEN(1, 0, 3));
 
 	/* Its blocks: frame 17, then 1 to 8. */
 	for (uint8_t i = 0; i < 9; i++) {
@@ -568,8 +564,7 @@ static void hears(void)
 		if (i == 8)
 			break;
 		HOLDS(answer, it, PIERSTRAND_KEPT, 0, 0, 0, NO_FIELDS);
-		RECEIVER_HOLDS(frame, 1, 1, 0, 0, 1, LONG_FIELDS, 0, 0, 8, 13, 3, i + 1, 3 + 264 * (i + 1), 0);
-		raw_is(ASSEMBLY_RAW, long_header, 16);
+		RECEIVER_HOLDS(frame, 1, SHORT_RAW, 0, LONG_OPEN(0, i + 1, 3 + 264 * (i + 1)));
 		store_has(3 + 264 * ((size_t)i + 1));
 		SILENCE(frame, 3);
 		if (frame == 17) {
@@ -578,7 +573,7 @@ static void hears(void)
 		}
 	}
 	HOLDS(answer, it, PIERSTRAND_JOINED, 0, 0, LONG_BITS, LONG_FIELDS);
-	RECEIVER_HOLDS(8, 1, 1, 0, 0, NO_ASSEMBLY);
+	RECEIVER_HOLDS(8, 1, SHORT_RAW, 0, NO_ASSEMBLY);
 	store_has(0);
 
 	/* After a break the short one in slot 1, and its copy in slot 3; then an assembly that a break drops. */

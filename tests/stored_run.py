@@ -1,5 +1,5 @@
 #!/usr/bin/env python3
-"""The run of slot reports that crates/demands/specs/Run.antt proves by computation: every rule of the receiver, report by report.
+"""The run of slot reports that crates/demands/proofs/RunHolds.antt proves by computation: every rule of the receiver, report by report.
 
 stored_run.py            write the table, RunTable.antt, anew
 stored_run.py --check    exit 1 if the table is not the one that this makes

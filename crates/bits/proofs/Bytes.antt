@@ -8,10 +8,12 @@ use lib.Dec.{eqb, leb}
 use borrow.Author.Tests.{le-leb, lt-leb, eqb-true, eqb-false}
 use lib.ListN.{length, take, drop, getD, length-append, length-take, length-drop, take-append-drop}
 use lib.Bits.{bitOr, or-shifted-r}
-use lib.Seq.{length-slice, take-nil, drop-nil, slice, slice-cons, slice-empty, drop-drop, take-append-add, drop-append-add, take-at, drop-at}
+use lib.Seq.{length-slice, take-nil, drop-nil, slice, slice-cons, slice-empty, drop-drop, take-append-add}
+use lib.Seq.{drop-append-add, take-at, drop-at}
 use lib.Pow.{shl-exact}
 use Rattle.bits.specs.Bits.{num, bitsN, bitsOf, bytesN, AllBytes}
-use Rattle.bits.proofs.Numbers.{length-bitsN, num-append, num-lt, num-bitsN, bitsN-is, num-take-lt, num-field, take-of-drop}
+use Rattle.bits.proofs.Numbers.{length-bitsN, num-append, num-lt, num-bitsN, bitsN-is, num-take-lt, num-field}
+use Rattle.bits.proofs.Numbers.{take-of-drop}
 
 pub length-bitsOf : (s : List ℕ) → length (bitsOf s) ≡ 8 * length s
 unfolding bitsOf
@@ -34,13 +36,15 @@ pub bitsOf-take : (n : ℕ) (s : List ℕ) → bitsOf (take n s) ≡ take (8 * n
 unfolding bitsOf
 bitsOf-take zero s = refl
 bitsOf-take (suc n) [] = sym (take-nil (8 * suc n))
-bitsOf-take (suc n) (x ∷ xs) = rw (eight-suc n x, take-append-add (bitsN 8 x) (bitsOf xs) (8 * n), bitsOf-take n xs) refl
+bitsOf-take (suc n) (x ∷ xs) =
+    rw (eight-suc n x, take-append-add (bitsN 8 x) (bitsOf xs) (8 * n), bitsOf-take n xs) refl
 
 pub bitsOf-drop : (n : ℕ) (s : List ℕ) → bitsOf (drop n s) ≡ drop (8 * n) (bitsOf s)
 unfolding bitsOf
 bitsOf-drop zero s = refl
 bitsOf-drop (suc n) [] = sym (drop-nil (8 * suc n))
-bitsOf-drop (suc n) (x ∷ xs) = rw (eight-suc n x, drop-append-add (bitsN 8 x) (bitsOf xs) (8 * n), bitsOf-drop n xs) refl
+bitsOf-drop (suc n) (x ∷ xs) =
+    rw (eight-suc n x, drop-append-add (bitsN 8 x) (bitsOf xs) (8 * n), bitsOf-drop n xs) refl
 
 -- the bits of the bytes from f up to t
 pub bitsOf-slice : (f t : ℕ) (s : List ℕ) → bitsOf (slice f t s) ≡ slice (8 * f) (8 * t) (bitsOf s)
@@ -106,8 +110,10 @@ pub length-bitsOf-slice : (f t : ℕ) (s : List ℕ) → t ≤ length s → leng
 length-bitsOf-slice f t s h = length-bitsOf (slice f t s) ∙ ap (λ (n : ℕ). 8 * n) (length-slice f t s h)
 
 -- a turn of the loop that loads: one byte more, before those that were loaded
-pub load-step : (s : List ℕ) (j t acc b low : ℕ) → j < t → t ≤ length s → t ≤ j + 8 → getD s j 0 < 256 → low ≡ 8 * (t - suc j)
-    → acc ≡ num (bitsOf (slice (suc j) t s)) → b ≡ getD s j 0 → bitOr acc (b * 2 ^ low % 2 ^ 64) ≡ num (bitsOf (slice j t s))
+pub load-step : (s : List ℕ) (j t acc b low : ℕ) → j < t → t ≤ length s → t ≤ j + 8 → getD s j 0 < 256
+    → low ≡ 8 * (t - suc j)
+    → acc ≡ num (bitsOf (slice (suc j) t s)) → b ≡ getD s j 0
+    → bitOr acc (b * 2 ^ low % 2 ^ 64) ≡ num (bitsOf (slice j t s))
 unfolding bitsOf
 load-step s j t acc b low h k l lt el e eb =
     let m = bitsOf (slice (suc j) t s) in
@@ -127,20 +133,27 @@ load-step s j t acc b low h k l lt el e eb =
 -- one byte as a number
 pub num-byte : (s : List ℕ) (i : ℕ) → i < length s → getD s i 0 < 256 → num (bitsOf (slice i (suc i) s)) ≡ getD s i 0
 num-byte s i h b =
-    rw (slice-cons i (suc i) s 0 (omega arith) h, slice-empty (suc i) s, bitsOf-one (getD s i 0), num-bitsN 8 (getD s i 0) b) refl
+    rw (
+      slice-cons i (suc i) s 0 (omega arith) h,
+      slice-empty (suc i) s,
+      bitsOf-one (getD s i 0),
+      num-bitsN 8 (getD s i 0) b,
+    ) refl
 
 -- a field, from the bytes that hold it
 pub field-of : (s : List ℕ) (at w f t : ℕ) → 8 * f ≤ at → at + w ≤ 8 * t → t ≤ length s
     → take w (drop (at - 8 * f) (bitsOf (slice f t s))) ≡ take w (drop at (bitsOf s))
 field-of s at w f t h k l =
     let e : 8 * f + (at - 8 * f) ≡ at = omega arith in
-    rw (bitsOf-slice f t s, drop-drop (at - 8 * f) (8 * f) (take (8 * t) (bitsOf s)), e) (take-of-drop w at (8 * t) (bitsOf s) k)
+    rw (bitsOf-slice f t s, drop-drop (at - 8 * f) (8 * f) (take (8 * t) (bitsOf s)), e)
+    (take-of-drop w at (8 * t) (bitsOf s) k)
 
 pub get-field : (s : List ℕ) (at w f t acc : ℕ) → 8 * f ≤ at → at + w ≤ 8 * t → t ≤ length s → f ≤ t
     → acc ≡ num (bitsOf (slice f t s)) → acc / 2 ^ (8 * t - (at + w)) % 2 ^ w ≡ num (take w (drop at (bitsOf s)))
 get-field s at w f t acc h k l o e =
     let n = length-bitsOf-slice f t s l in
-    rw (e, num-field (bitsOf (slice f t s)) (at - 8 * f) w (8 * t - (at + w)) (omega arith), field-of s at w f t h k l) refl
+    rw (e, num-field (bitsOf (slice f t s)) (at - 8 * f) w (8 * t - (at + w)) (omega arith), field-of s at w f t h k l)
+    refl
 
 -- ---- the lent bits
 

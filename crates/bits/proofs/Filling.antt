@@ -6,7 +6,8 @@ use mathlib.Core.Option.{Option, none, some}
 use Prim.Native.Nat.{ℕ, zero, suc, _+_, _-_, _*_, _/_, _^_, _≤_, _<_}
 use native.Mathlib.Nat.{add-zero, one-mul, mul-one, sub-self, sub-zero, div-self}
 use native.Mathlib.Omega.{arith}
-use lib.ListN.{length, take, drop, getD, replicate, length-take, take-append-drop, length-replicate, length-append, replicate-append-replicate}
+use lib.ListN.{length, take, drop, getD, replicate, length-take, take-append-drop, length-replicate, length-append}
+use lib.ListN.{replicate-append-replicate}
 use lib.Pow.{pow-pos}
 use lib.Seq.{slice, slice-cons, length-slice, drop-cons, drop-append-le, take-take}
 use Rattle.bits.specs.Bits.{bit, num, bitsN, testBit, over}
@@ -68,14 +69,16 @@ unfolding strip
 strip-none-is [] e = refl
 strip-none-is (x ∷ xs) e = let f = none-first x (strip xs) e in ap₂ _∷_ (f .0) (strip-none-is xs (f .1))
 
-some-first : (x : Bool) (xs m : List Bool) (o : Option (List Bool)) → strip xs ≡ o → ((r : List Bool) → strip xs ≡ some r → xs ≡ filled (length xs) r)
+some-first : (x : Bool) (xs m : List Bool) (o : Option (List Bool)) → strip xs ≡ o
+    → ((r : List Bool) → strip xs ≡ some r → xs ≡ filled (length xs) r)
     → before x o ≡ some m → x ∷ xs ≡ filled (suc (length xs)) m
 unfolding before filled fillBits
 some-first x xs m (some r) s ih e =
     let em : m ≡ x ∷ r = cc in
     let d : suc (length xs) - suc (length r) ≡ length xs - length r = omega arith in
     rw (em, d) (ap (_∷_ x) (ih r s))
-some-first true xs m none s ih e = let em : m ≡ [] = cc in rw (em, sub-zero (suc (length xs))) (ap (_∷_ true) (strip-none-is xs s))
+some-first true xs m none s ih e =
+    let em : m ≡ [] = cc in rw (em, sub-zero (suc (length xs))) (ap (_∷_ true) (strip-none-is xs s))
 some-first false xs m none s ih e = let z : _≡_ {A = ℕ} 0 1 = cc in absurd (omega arith)
 
 -- a 1: the message before the last one, and fill
@@ -84,7 +87,8 @@ unfolding strip
 strip-is [] m e = let z : _≡_ {A = ℕ} 0 1 = cc in absurd (omega arith)
 strip-is (x ∷ xs) m e = some-first x xs m (strip xs) refl (λ r s. strip-is xs r s) e
 
-some-shorter : (x : Bool) (xs m : List Bool) (o : Option (List Bool)) → ((r : List Bool) → o ≡ some r → length r < length xs) → before x o ≡ some m
+some-shorter : (x : Bool) (xs m : List Bool) (o : Option (List Bool))
+    → ((r : List Bool) → o ≡ some r → length r < length xs) → before x o ≡ some m
     → length m < suc (length xs)
 unfolding before
 some-shorter x xs m (some r) ih e = let em : m ≡ x ∷ r = cc in rw em (let h = ih r refl in omega arith)
@@ -119,7 +123,8 @@ slice-split f j t l h k i =
     ∙ drop-append-le f (take j (take t l)) (slice j t l) (rw (length-take j (take t l), length-take t l) (omega arith))
     ∙ ap (λ (x : List Bool). drop f x ++ slice j t l) (take-take j t l k)
 
-module _ (l : List Bool) (from to i j : ℕ) (e : i ≡ suc j) (f : from < i) (h : i ≤ to) (t : to ≤ length l) (s : strip (slice i to l) ≡ none) where
+module _ (l : List Bool) (from to i j : ℕ) (e : i ≡ suc j) (f : from < i) (h : i ≤ to) (t : to ≤ length l)
+    (s : strip (slice i to l) ≡ none) where
   cut : slice j to l ≡ getD l j false ∷ slice i to l
   cut = slice-cons j to l false (omega arith) t ∙ ap (λ (n : ℕ). getD l j false ∷ slice n to l) (sym e)
 
@@ -133,7 +138,8 @@ module _ (l : List Bool) (from to i j : ℕ) (e : i ≡ suc j) (f : from < i) (h
   last-found n =
       let z : getD l j false ≡ true = bit-one (getD l j false) (rw (num-one l j (omega arith)) at n) in
       let m : from + length (slice from j l) ≡ j = rw (length-slice from j l (omega arith)) (omega arith) in
-      rw (slice-split from j to l (omega arith) (omega arith) t, cut, z, strip-at (slice from j l) (slice i to l) s, m) refl
+      rw (slice-split from j to l (omega arith) (omega arith) t, cut, z, strip-at (slice from j l) (slice i to l) s, m)
+      refl
 
 -- ---- fill, 56 bits at a time
 
@@ -142,7 +148,8 @@ pub fill-start : (m : ℕ) → bitsN (suc m) (2 ^ m) ≡ true ∷ replicate m fa
 unfolding bitsN testBit
 fill-start m =
     let one : 2 ^ m / 2 ^ m ≡ 1 = div-self (pow-pos m) in
-    let zeros : bitsN m (2 ^ m) ≡ bitsN m 0 = ap (bitsN m) (sym (one-mul (2 ^ m)) ∙ sym (add-zero (1 * 2 ^ m))) ∙ bitsN-high m 1 0 in
+    let zeros : bitsN m (2 ^ m) ≡ bitsN m 0 =
+    ap (bitsN m) (sym (one-mul (2 ^ m)) ∙ sym (add-zero (1 * 2 ^ m))) ∙ bitsN-high m 1 0 in
     rw (one, zeros, bitsN-zero m) refl
 
 pub clear-more : (from i w : ℕ) (b : List Bool) → from ≤ i → i + w ≤ length b
@@ -155,7 +162,8 @@ clear-more from i w b h l =
     rw (bitsN-zero w)
     (ap (λ (x : ℕ). over x (replicate w false) (over from f b)) e
     ∙ over-over from f (replicate w false) b (rw (length-replicate w false) (omega arith))
-    ∙ ap (λ (x : List Bool). over from x b) (replicate-append-replicate (i - from) w false ∙ ap (λ (n : ℕ). replicate n false) m))
+    ∙ ap (λ (x : List Bool). over from x b)
+    (replicate-append-replicate (i - from) w false ∙ ap (λ (n : ℕ). replicate n false) m))
 
 -- and the 0s after them
 pub fill-end : (at to w m : ℕ) (b : List Bool) → w ≡ suc m → at + w ≤ to → to ≤ length b

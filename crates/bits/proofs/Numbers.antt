@@ -3,7 +3,9 @@ use mathlib.Core.Path.{_≡_, refl, sym, ap, ap₂, _∙_}
 use mathlib.Core.Bool.{Bool, true, false}
 use mathlib.Core.List.{List, [], _∷_, _++_}
 use Prim.Native.Nat.{ℕ, zero, suc, _+_, _-_, _*_, _/_, _%_, _^_, _≤_, _<_}
-use native.Mathlib.Nat.{suc-add, zero-add, add-assoc, mul-assoc, add-mul, pow-suc, mod-eq-of-lt, one-mul, lt-of-lt-of-le, mul-add-div-right, mul-add-mod-self-right, mod-one, add-comm, mul-comm, min-le-left, zero-div, zero-mul, mod-lt}
+use native.Mathlib.Nat.{suc-add, zero-add, add-assoc, mul-assoc, add-mul, pow-suc, mod-eq-of-lt, one-mul}
+use native.Mathlib.Nat.{lt-of-lt-of-le, mul-add-div-right, mul-add-mod-self-right, mod-one, add-comm, mul-comm}
+use native.Mathlib.Nat.{min-le-left, zero-div, zero-mul, mod-lt}
 use native.Mathlib.Numerals.{one-add}
 use native.Mathlib.Omega.{arith}
 use lib.Dec.{eqb}
@@ -138,7 +140,11 @@ module _ (m : List Bool) (k r : ℕ) (e : k + r ≡ length m) where
 -- the number of the w bits after k, of which r follow
 pub num-field : (m : List Bool) (k w r : ℕ) → k + w + r ≡ length m → num m / 2 ^ r % 2 ^ w ≡ num (take w (drop k m))
 num-field m k w r e =
-    rw (num-shr m (k + w) r e, num-low (take (k + w) m) k w (rw (length-take (k + w) m) (omega arith)), drop-of-take k w m) refl
+    rw (
+      num-shr m (k + w) r e,
+      num-low (take (k + w) m) k w (rw (length-take (k + w) m) (omega arith)),
+      drop-of-take k w m,
+    ) refl
 
 -- what stands in w bits is below 2 ^ w
 pub num-take-lt : (w : ℕ) (l : List Bool) → num (take w l) < 2 ^ w
@@ -161,11 +167,13 @@ ones-of w h = shl-exact 1 w 64 (omega arith) (omega arith) ∙ one-mul (2 ^ w)
 pub num-parts : (b : List Bool) (at j k : ℕ) → at + (j + k) ≤ length b
     → num (take (j + k) (drop at b)) ≡ num (take j (drop at b)) * 2 ^ k + num (take k (drop (at + j) b))
 num-parts b at j k h =
-    let l : length (take k (drop (at + j) b)) ≡ k = rw (length-take k (drop (at + j) b), length-drop (at + j) b) (omega arith) in
+    let l : length (take k (drop (at + j) b)) ≡ k =
+    rw (length-take k (drop (at + j) b), length-drop (at + j) b) (omega arith) in
     rw (take-add j k (drop at b), drop-drop j at b, num-append (take j (drop at b)) (take k (drop (at + j) b)), l) refl
 
 -- a field, from the k bits at its end and those before them
-pub few-code : (b : List Bool) (at w k hi lo : ℕ) → k ≤ w → w ≤ 56 → at + w ≤ length b → hi ≡ num (take (w - k) (drop at b))
+pub few-code : (b : List Bool) (at w k hi lo : ℕ) → k ≤ w → w ≤ 56 → at + w ≤ length b
+    → hi ≡ num (take (w - k) (drop at b))
     → lo ≡ num (take k (drop (at + (w - k)) b)) → bitOr (hi * 2 ^ k % 2 ^ 64) lo ≡ num (take w (drop at b))
 few-code b at w k hi lo h n l eh el =
     let e : w ≡ w - k + k = omega arith in
@@ -188,18 +196,21 @@ shl-six : (v a w : ℕ) → v < 2 ^ w → a + w ≤ 64 → v * 2 ^ bitAnd a 63 %
 shl-six v a zero h l = rw (lt-one h, zero-mul (2 ^ bitAnd a 63), zero-mul (2 ^ a)) refl
 shl-six v a (suc w) h l = rw (low-six a (omega arith)) (shl-exact (suc w) a 64 h (omega arith))
 
-pub cut-code : (x a w : ℕ) → a + w ≤ 64 → w ≤ 56 → bitAnd (x / 2 ^ bitAnd a 63) (1 * 2 ^ w % 2 ^ 64 - 1) ≡ x / 2 ^ a % 2 ^ w
+pub cut-code : (x a w : ℕ) → a + w ≤ 64 → w ≤ 56
+    → bitAnd (x / 2 ^ bitAnd a 63) (1 * 2 ^ w % 2 ^ 64 - 1) ≡ x / 2 ^ a % 2 ^ w
 cut-code x a w h l = rw (ones-of w (omega arith), and-mask (x / 2 ^ bitAnd a 63) w) (shr-six x a w h)
 
 pub cut-split : (x a w : ℕ) → x ≡ x / 2 ^ (w + a) * 2 ^ (w + a) + (x / 2 ^ a % 2 ^ w * 2 ^ a + x % 2 ^ a)
 cut-split x a w = sym (split x (w + a)) ∙ ap (λ (y : ℕ). x / 2 ^ (w + a) * 2 ^ (w + a) + y) (mod-pow-add x w a)
 
-pub pasted-lt : (n x a w v : ℕ) → x < 2 ^ n → w + a ≤ n → v < 2 ^ w → x / 2 ^ (w + a) * 2 ^ (w + a) + (v * 2 ^ a + x % 2 ^ a) < 2 ^ n
+pub pasted-lt : (n x a w v : ℕ) → x < 2 ^ n → w + a ≤ n → v < 2 ^ w
+    → x / 2 ^ (w + a) * 2 ^ (w + a) + (v * 2 ^ a + x % 2 ^ a) < 2 ^ n
 pasted-lt n x a w v hx l hv =
     let e : n - (w + a) + (w + a) ≡ n = omega arith in
     let inner : v * 2 ^ a + x % 2 ^ a < 2 ^ (w + a) = rw (pow-add 2 w a) (digits-lt hv (mod-lt x (pow-pos a))) in
     let outer : x / 2 ^ (w + a) < 2 ^ (n - (w + a)) = shr-lt (n - (w + a)) (w + a) (rw e hx) in
-    let all : 2 ^ n ≡ 2 ^ (n - (w + a)) * 2 ^ (w + a) = ap (λ (k : ℕ). 2 ^ k) (sym e) ∙ pow-add 2 (n - (w + a)) (w + a) in
+    let all : 2 ^ n ≡ 2 ^ (n - (w + a)) * 2 ^ (w + a) =
+    ap (λ (k : ℕ). 2 ^ k) (sym e) ∙ pow-add 2 (n - (w + a)) (w + a) in
     rw all (digits-lt outer inner)
 
 module _ (x a w v : ℕ) (h : a + w ≤ 64) (hv : v < 2 ^ w) (hx : x < 2 ^ 64) where

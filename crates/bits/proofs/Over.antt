@@ -6,10 +6,12 @@ use Prim.Native.Nat.{ℕ, _+_, _-_, _*_, _≤_}
 use native.Mathlib.Nat.{add-zero, zero-add, add-assoc}
 use native.Mathlib.Omega.{arith}
 use lib.ListN.{length, take, drop, length-append, length-take, length-drop, take-append-drop}
-use lib.Seq.{take-append-add, drop-append-add, take-append-le, drop-append-le, drop-length, take-at, drop-at, drop-drop, take-add, slice, length-take-le, length-slice, take-take}
+use lib.Seq.{take-append-add, drop-append-add, take-append-le, drop-append-le, drop-length, take-at, drop-at, drop-drop}
+use lib.Seq.{take-add, slice, length-take-le, length-slice, take-take}
 use Rattle.bits.specs.Bits.{over, num, bitsN, bitsOf, bytesN, AllBytes}
 use Rattle.bits.proofs.Numbers.{bitsN-is, take-of-drop}
-use Rattle.bits.proofs.Bytes.{length-bitsOf, bitsOf-append, bitsOf-take, bitsOf-drop, bitsOf-bytesN, bitsOf-inj, bytesN-bytes, bytes-append, bytes-drop}
+use Rattle.bits.proofs.Bytes.{length-bitsOf, bitsOf-append, bitsOf-take, bitsOf-drop, bitsOf-bytesN, bitsOf-inj}
+use Rattle.bits.proofs.Bytes.{bytesN-bytes, bytes-append, bytes-drop}
 
 pub length-over : (at : ℕ) (n l : List Bool) → at + length n ≤ length l → length (over at n l) ≡ length l
 unfolding over
@@ -50,13 +52,15 @@ unfolding over
 over-all n l e = rw (e, zero-add (length l), drop-length l, append-nil n) refl
 
 -- two writes side by side
-pub over-over : (at : ℕ) (a b l : List Bool) → at + length a + length b ≤ length l → over (at + length a) b (over at a l) ≡ over at (a ++ b) l
+pub over-over : (at : ℕ) (a b l : List Bool) → at + length a + length b ≤ length l
+    → over (at + length a) b (over at a l) ≡ over at (a ++ b) l
 unfolding over
 over-over at a b l h =
     let p = take at l ++ a in
     let d = drop (at + length a) l in
     let e : at + length a ≡ length p + 0 = rw (length-append (take at l) a, length-take at l) (omega arith) in
-    ap (over (at + length a) b) (sym (append-assoc (take at l) a d)) ∙ ap (λ (n : ℕ). over n b (p ++ d)) e ∙ over-right 0 b p d
+    ap (over (at + length a) b) (sym (append-assoc (take at l) a d)) ∙ ap (λ (n : ℕ). over n b (p ++ d)) e
+    ∙ over-right 0 b p d
     ∙ rw (
       zero-add (length b),
       drop-drop (length b) (at + length a) l,
@@ -70,15 +74,18 @@ over-over at a b l h =
 pub over-read : (at w : ℕ) (n l : List Bool) → at ≤ length l → length n ≡ w → take w (drop at (over at n l)) ≡ n
 unfolding over
 over-read at w n l h e =
-    ap (take w) (drop-at (take at l) (n ++ drop (at + length n) l) at (length-take-le at l h)) ∙ take-at n (drop (at + length n) l) w e
+    ap (take w) (drop-at (take at l) (n ++ drop (at + length n) l) at (length-take-le at l h))
+    ∙ take-at n (drop (at + length n) l) w e
 
 -- what stands before and after it is as it was
 pub over-take : (k at : ℕ) (n l : List Bool) → k ≤ at → at ≤ length l → take k (over at n l) ≡ take k l
 unfolding over
 over-take k at n l h i =
-    take-append-le k (take at l) (n ++ drop (at + length n) l) (rw (length-take at l) (omega arith)) ∙ take-take k at l h
+    take-append-le k (take at l) (n ++ drop (at + length n) l) (rw (length-take at l) (omega arith))
+    ∙ take-take k at l h
 
-pub over-drop : (k at : ℕ) (n l : List Bool) → at + length n ≤ k → at + length n ≤ length l → drop k (over at n l) ≡ drop k l
+pub over-drop : (k at : ℕ) (n l : List Bool) → at + length n ≤ k → at + length n ≤ length l
+    → drop k (over at n l) ≡ drop k l
 unfolding over
 over-drop k at n l h i =
     let e = at + length n in
@@ -91,16 +98,9 @@ over-drop k at n l h i =
     ∙ drop-drop (k - e) e l
     ∙ ap (λ (x : ℕ). drop x l) s
 
--- reading over a write, at another place
-pub read-before : (k w at : ℕ) (n l : List Bool) → k + w ≤ at → at ≤ length l → take w (drop k (over at n l)) ≡ take w (drop k l)
-read-before k w at n l h i =
-    sym (take-of-drop w k at (over at n l) h) ∙ ap (λ (x : List Bool). take w (drop k x)) (over-take at at n l (omega arith) i) ∙ take-of-drop w k at l h
-
-pub read-after : (k w at : ℕ) (n l : List Bool) → at + length n ≤ k → at + length n ≤ length l → take w (drop k (over at n l)) ≡ take w (drop k l)
-read-after k w at n l h i = ap (take w) (over-drop k at n l h i)
-
 -- a write of whole bytes is a write to the list of bytes
-pub over-bytes : (k : ℕ) (n l : List ℕ) → over (8 * k) (bitsOf n) (bitsOf l) ≡ bitsOf (take k l ++ (n ++ drop (k + length n) l))
+pub over-bytes : (k : ℕ) (n l : List ℕ)
+    → over (8 * k) (bitsOf n) (bitsOf l) ≡ bitsOf (take k l ++ (n ++ drop (k + length n) l))
 unfolding over
 over-bytes k n l =
     let e : 8 * k + length (bitsOf n) ≡ 8 * (k + length n) = omega (arith, length-bitsOf n) in
@@ -113,13 +113,16 @@ over-bytes k n l =
     ) refl
 
 -- whole bytes written at the start: these bytes, and after them what was there
-pub bytes-written : (q : ℕ) (x : List Bool) (old new : List ℕ) → length x ≡ 8 * q → AllBytes old → AllBytes new → bitsOf new ≡ over 0 x (bitsOf old)
+pub bytes-written : (q : ℕ) (x : List Bool) (old new : List ℕ) → length x ≡ 8 * q → AllBytes old → AllBytes new
+    → bitsOf new ≡ over 0 x (bitsOf old)
     → new ≡ bytesN q x ++ drop (length (bytesN q x)) old
 bytes-written q x old new e ho hn w =
     let b = bytesN q x in
     let whole : over 0 x (bitsOf old) ≡ bitsOf (b ++ drop (length b) old) =
-    ap (λ (y : List Bool). over 0 y (bitsOf old)) (sym (bitsOf-bytesN q x e)) ∙ over-bytes 0 b old ∙ rw (zero-add (length b)) refl in
-    bitsOf-inj new (b ++ drop (length b) old) hn (bytes-append b (drop (length b) old) (bytesN-bytes q x) (bytes-drop (length b) old ho)) (w ∙ whole)
+    ap (λ (y : List Bool). over 0 y (bitsOf old)) (sym (bitsOf-bytesN q x e)) ∙ over-bytes 0 b old
+    ∙ rw (zero-add (length b)) refl in
+    bitsOf-inj new (b ++ drop (length b) old) hn
+    (bytes-append b (drop (length b) old) (bytesN-bytes q x) (bytes-drop (length b) old ho)) (w ∙ whole)
 
 -- ---- a part of the whole
 
@@ -131,13 +134,15 @@ module _ (f t : ℕ) (l : List Bool) (o : f ≤ t) (h : t ≤ length l) where
       ∙ ap (λ (x : List Bool). x ++ drop t l) (take-append-drop f (take t l))
       ∙ take-append-drop t l)
 
-  over-in : (k : ℕ) (n : List Bool) → f + k + length n ≤ t → over (f + k) n l ≡ take f l ++ (over k n (slice f t l) ++ drop t l)
+  over-in : (k : ℕ) (n : List Bool) → f + k + length n ≤ t
+      → over (f + k) n l ≡ take f l ++ (over k n (slice f t l) ++ drop t l)
   over-in k n i =
       let e : f + k ≡ length (take f l) + k = rw (length-take f l) (omega arith) in
       ap (over (f + k) n) parts
       ∙ ap (λ (x : ℕ). over x n (take f l ++ (slice f t l ++ drop t l))) e
       ∙ over-right k n (take f l) (slice f t l ++ drop t l)
-      ∙ ap (λ (x : List Bool). take f l ++ x) (over-left k n (slice f t l) (drop t l) (rw (length-slice f t l h) (omega arith)))
+      ∙ ap (λ (x : List Bool). take f l ++ x)
+      (over-left k n (slice f t l) (drop t l) (rw (length-slice f t l h) (omega arith)))
 
   -- a write within a part is a write to the whole
   pub over-part : (k : ℕ) (n : List Bool) → f + k + length n ≤ t → over f (over k n (slice f t l)) l ≡ over (f + k) n l
@@ -152,7 +157,8 @@ module _ (f t : ℕ) (l : List Bool) (o : f ≤ t) (h : t ≤ length l) where
 -- ---- a copy
 
 pub copy-more : (s d : List Bool) (from to i w : ℕ) → from + i + w ≤ length s → to + i + w ≤ length d
-    → over (to + i) (bitsN w (num (take w (drop (from + i) s)))) (over to (take i (drop from s)) d) ≡ over to (take (i + w) (drop from s)) d
+    → over (to + i) (bitsN w (num (take w (drop (from + i) s)))) (over to (take i (drop from s)) d)
+    ≡ over to (take (i + w) (drop from s)) d
 copy-more s d from to i w hs hd =
     let q = take w (drop (from + i) s) in
     let p = take i (drop from s) in
@@ -160,4 +166,5 @@ copy-more s d from to i w hs hd =
     let lp : length p ≡ i = rw (length-take i (drop from s), length-drop from s) (omega arith) in
     ap₂ (λ (k : ℕ) (x : List Bool). over (to + k) x (over to p d)) (sym lp) (bitsN-is w (num q) q lq refl)
     ∙ over-over to p q d (omega arith)
-    ∙ ap (λ (x : List Bool). over to x d) (ap (λ (x : List Bool). p ++ take w x) (sym (drop-drop i from s)) ∙ sym (take-add i w (drop from s)))
+    ∙ ap (λ (x : List Bool). over to x d)
+    (ap (λ (x : List Bool). p ++ take w x) (sym (drop-drop i from s)) ∙ sym (take-add i w (drop from s)))

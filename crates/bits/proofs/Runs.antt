@@ -20,7 +20,8 @@ join-none-right a = append-nil a
 -- runs joined in two lots
 pub joined-append : (a b : List (List Bool)) → joined (a ++ b) ≡ joined a ++ joined b
 joined-append [] b = refl
-joined-append (r ∷ rs) b = ap (λ (x : List Bool). r ++ x) (joined-append rs b) ∙ sym (join-assoc r (joined rs) (joined b))
+joined-append (r ∷ rs) b =
+    ap (λ (x : List Bool). r ++ x) (joined-append rs b) ∙ sym (join-assoc r (joined rs) (joined b))
 
 -- a run cut in two
 pub joined-cut : (n : ℕ) (r : List Bool) → joined (take n r ∷ drop n r ∷ []) ≡ r

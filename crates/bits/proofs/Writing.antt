@@ -1,4 +1,5 @@
--- The loop that stores a number into bytes, last byte first; and what `put` makes of it, or of one byte after another. Assumes nothing.
+-- The loop that stores a number into bytes, last byte first; and what `put` makes of it, or of one byte after another.
+-- Assumes nothing.
 use mathlib.Core.Path.{_≡_, refl, sym, ap, ap₂, _∙_, subst}
 use mathlib.Core.Bool.{Bool}
 use mathlib.Core.List.{List, _∷_, _++_, append-assoc}
@@ -10,8 +11,10 @@ use lib.Bits.{bitAnd, and-mask}
 use lib.ListN.{length, take, drop, set, length-set, length-append, length-drop, take-append-drop}
 use lib.Seq.{take-set-le, take-take, set-split, drop-at, length-take-le, slice}
 use Rattle.bits.specs.Bits.{over, num, bitsN, bitsOf}
-use Rattle.bits.proofs.Numbers.{length-bitsN, num-append, bitsN-add, bitsN-mod, bitsN-is, num-shr, num-low, num-bitsN}
-use Rattle.bits.proofs.Bytes.{bitsOf-take, bitsOf-drop, bitsOf-append, length-bitsOf, length-bitsOf-slice, bitsOf-slice}
+use Rattle.bits.proofs.Numbers.{length-bitsN, num-append, bitsN-add, bitsN-mod, bitsN-is, num-shr, num-low}
+use Rattle.bits.proofs.Numbers.{num-bitsN}
+use Rattle.bits.proofs.Bytes.{bitsOf-take, bitsOf-drop, bitsOf-append, length-bitsOf, length-bitsOf-slice}
+use Rattle.bits.proofs.Bytes.{bitsOf-slice}
 use Rattle.bits.proofs.Over.{length-over, over-part}
 
 -- the bytes from i up to last hold their part of v, and the rest of v is left
@@ -51,12 +54,18 @@ module _ (old : List ℕ) (first last v : ℕ) (o : first ≤ last) (h : last �
         len = length-set out j b ∙ s .len;
         low = omega arith;
         high = omega arith;
-        head = take-set-le j out j b (le-refl j) ∙ sym (take-take j (suc j) out (omega arith)) ∙ ap (take j) hd ∙ take-take j (suc j) old (omega arith);
+        head =
+            take-set-le j out j b (le-refl j) ∙ sym (take-take j (suc j) out (omega arith)) ∙ ap (take j) hd
+            ∙ take-take j (suc j) old (omega arith);
         tail =
-            ap bitsOf (ap (drop j) (set-split out j b inside) ∙ drop-at (take j out) (b ∷ drop (suc j) out) j (length-take-le j out (omega arith)))
-            ∙ ap₂ (λ (x y : List Bool). x ++ y) (ap (bitsN 8) (and-mask rest 8) ∙ bitsN-mod 8 rest ∙ ap (bitsN 8) (s .left)) tl
+            ap bitsOf
+            (ap (drop j) (set-split out j b inside)
+            ∙ drop-at (take j out) (b ∷ drop (suc j) out) j (length-take-le j out (omega arith)))
+            ∙ ap₂ (λ (x y : List Bool). x ++ y)
+            (ap (bitsN 8) (and-mask rest 8) ∙ bitsN-mod 8 rest ∙ ap (bitsN 8) (s .left)) tl
             ∙ sym (append-assoc (bitsN 8 (v / 2 ^ k)) (bitsN k v) (bitsOf (drop last old)))
-            ∙ ap (λ (x : List Bool). x ++ bitsOf (drop last old)) (sym (bitsN-add 8 k v) ∙ ap (λ (n : ℕ). bitsN n v) (sym ek));
+            ∙ ap (λ (x : List Bool). x ++ bitsOf (drop last old))
+            (sym (bitsN-add 8 k v) ∙ ap (λ (n : ℕ). bitsN n v) (sym ek));
         left = ap (λ (x : ℕ). x / 2 ^ 8) (s .left) ∙ shr-shr v k 8 ∙ ap (λ (n : ℕ). v / 2 ^ n) (add-comm k 8 ∙ sym ek);
       }
 
@@ -99,8 +108,12 @@ num-over m k w r v e h =
     sym-len = omega arith
 
 -- what it says of all the bits
-pub put-field : (s : List ℕ) (at w v f t r : ℕ) → 8 * f ≤ at → at + w ≤ 8 * t → t ≤ length s → f ≤ t → r ≡ 8 * t - (at + w) → v < 2 ^ w
-    → over (8 * f) (bitsN (8 * (t - f)) (num (bitsOf (slice f t s)) / 2 ^ (w + r) * 2 ^ (w + r) + (v * 2 ^ r + num (bitsOf (slice f t s)) % 2 ^ r))) (bitsOf s)
+pub put-field : (s : List ℕ) (at w v f t r : ℕ) → 8 * f ≤ at → at + w ≤ 8 * t → t ≤ length s → f ≤ t
+    → r ≡ 8 * t - (at + w) → v < 2 ^ w
+    → over (8 * f)
+    (bitsN (8 * (t - f))
+    (num (bitsOf (slice f t s)) / 2 ^ (w + r) * 2 ^ (w + r) + (v * 2 ^ r + num (bitsOf (slice f t s)) % 2 ^ r)))
+    (bitsOf s)
     ≡ over at (bitsN w v) (bitsOf s)
 put-field s at w v f t r h k l o er lt =
     let m = bitsOf (slice f t s) in
@@ -109,8 +122,10 @@ put-field s at w v f t r h k l o er lt =
     let lb : length (bitsOf s) ≡ 8 * length s = length-bitsOf s in
     let j = at - 8 * f in
     let e : 8 * f + j ≡ at = omega arith in
-    let is : bitsN (8 * (t - f)) (num m / 2 ^ (w + r) * 2 ^ (w + r) + (v * 2 ^ r + num m % 2 ^ r)) ≡ over j (bitsN w v) m =
-    bitsN-is (8 * (t - f)) _ (over j (bitsN w v) m) (length-over j (bitsN w v) m (omega arith) ∙ n) (num-over m j w r v (omega arith) lt) in
+    let is : bitsN (8 * (t - f)) (num m / 2 ^ (w + r) * 2 ^ (w + r) + (v * 2 ^ r + num m % 2 ^ r))
+    ≡ over j (bitsN w v) m =
+    bitsN-is (8 * (t - f)) _ (over j (bitsN w v) m) (length-over j (bitsN w v) m (omega arith) ∙ n)
+    (num-over m j w r v (omega arith) lt) in
     ap (λ (x : List Bool). over (8 * f) x (bitsOf s)) (is ∙ ap (over j (bitsN w v)) (bitsOf-slice f t s))
     ∙ over-part (8 * f) (8 * t) (bitsOf s) (omega arith) (omega arith) j (bitsN w v) (omega arith)
     ∙ ap (λ (x : ℕ). over x (bitsN w v) (bitsOf s)) e

@@ -48,8 +48,8 @@ pub record Got (b : List Bool) (at w r : ℕ) : Type 0 where
   pub is : r ≡ field at w b
   pub small : r < 2 ^ w
 
--- What the functions ask of a place: the bits from bit `from` up to bit `to` are among those of `len` bytes, and no place is so far out that a
--- sum of places could wrap.
+-- What the functions ask of a place: the bits from bit `from` up to bit `to` are among those of `len` bytes, and no
+-- place is so far out that a sum of places could wrap.
 pub record Inside (len from to : ℕ) : Type 0 where
   pub ordered : from ≤ to
   pub within : to ≤ 8 * len

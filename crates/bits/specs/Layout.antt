@@ -1,4 +1,5 @@
--- A layout: parts side by side, each a width and a value. A format is one such list; packing and reading back are its two readings.
+-- A layout: parts side by side, each a width and a value. A format is one such list; packing and reading back are its
+-- two readings.
 use mathlib.Core.Bool.{Bool}
 use mathlib.Core.List.{List, [], _∷_, _++_}
 use Prim.Native.Nat.{ℕ, zero, suc, _+_, _^_, _<_, _≤_}
@@ -46,9 +47,13 @@ placeIn at [] k = at
 placeIn at (w ∷ ws) zero = at
 placeIn at (w ∷ ws) (suc k) = placeIn (at + w) ws k
 
--- The value of part k as it stands in b.
+-- The value of part k as it stands in b, for parts from bit `at` on.
+abbrev pub elementFrom : ℕ → List ℕ → ℕ → List Bool → ℕ
+elementFrom at ws k b = field (placeIn at ws k) (getD ws k 0) b
+
+-- The same, from the first bit on.
 abbrev pub element : List ℕ → ℕ → List Bool → ℕ
-element ws k b = field (placeIn 0 ws k) (getD ws k 0) b
+element ws k b = elementFrom 0 ws k b
 
 -- Each value fits its width.
 abbrev pub AllFit : List Part → Type 0

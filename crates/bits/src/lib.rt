@@ -21,7 +21,8 @@ fn index(x: u8) -> usize
     x as usize
 }
 
-fn least(a: usize, b: usize) -> usize
+// The smaller of two numbers.
+pub fn least(a: usize, b: usize) -> usize
     ensures { λ r. ⌜ r ≡ min a b ⌝ }
 {
     if a < b { a } else { b }
@@ -60,7 +61,8 @@ fn load(s: &[u8], first: usize, last: usize) -> u64
 // Puts the low `8 * (last - first)` bits of `v` into the bytes from `first` up to `last`.
 fn store(out: &mut [u8], first: usize, last: usize, v: u64)
     requires { ⌜ (first ≤ last) × (last ≤ length (now out)) × (last ≤ first + 8) ⌝ }
-    ensures { λ r. ⌜ bitsOf (now (out .exit)) ≡ over (8 * first) (bitsN (8 * (last - first)) v) (bitsOf (now (out .entry))) ⌝ }
+    ensures { λ r. ⌜ bitsOf (now (out .exit))
+        ≡ over (8 * first) (bitsN (8 * (last - first)) v) (bitsOf (now (out .entry))) ⌝ }
 {
     let mut rest = v;
     let mut i = last;
@@ -115,9 +117,11 @@ fn get_few(s: &[u8], at: usize, w: usize) -> u64
     (get_few(s, at, w - k) << k) | get_in_byte(s, last, k)
 }
 
-// Puts the `w` bits of `v` at bit `at`, through the bytes from `first` up to `last`, eight at most, that the field stands in.
+// Puts the `w` bits of `v` at bit `at`, through the bytes from `first` up to `last`, eight at most, that the field
+// stands in.
 fn put_through(out: &mut [u8], first: usize, last: usize, at: usize, w: usize, v: u64)
-    requires { ⌜ Inside (length (now out)) at (at + w) × (8 * first ≤ at) × (at + w ≤ 8 * last) × (last ≤ length (now out)) × (last ≤ first + 8) × (w ≤ 56) × (v < 2 ^ w) ⌝ }
+    requires { ⌜ Inside (length (now out)) at (at + w) × (8 * first ≤ at) × (at + w ≤ 8 * last)
+        × (last ≤ length (now out)) × (last ≤ first + 8) × (w ≤ 56) × (v < 2 ^ w) ⌝ }
     ensures { λ r. ⌜ bitsOf (now (out .exit)) ≡ over at (bitsN w v) (bitsOf (now (out .entry))) ⌝ }
 {
     let whole = load(out, first, last);
@@ -171,12 +175,14 @@ pub fn put(out: &mut [u8], at: usize, w: usize, v: u64)
     put_through(out, first, first + 8, at, w, v);
 }
 
-// Puts each value into its width of bits, side by side from bit `at` on: `n` bits, the number `acc`, wait to be put together.
+// Puts each value into its width of bits, side by side from bit `at` on: `n` bits, the number `acc`, wait to be put
+// together.
 pub fn put_all(out: &mut [u8], at: usize, widths: &[u8], values: &[u64])
     requires { ⌜ (length (now widths) ≡ length (now values)) × AllNarrow (now widths)
         × AllFit (partsWith (now widths) (now values))
         × Inside (length (now out)) at (at + total (partsWith (now widths) (now values))) ⌝ }
-    ensures { λ r. ⌜ bitsOf (now (out .exit)) ≡ over at (pack (partsWith (now (widths .entry)) (now (values .entry)))) (bitsOf (now (out .entry))) ⌝ }
+    ensures { λ r. ⌜ bitsOf (now (out .exit))
+        ≡ over at (pack (partsWith (now (widths .entry)) (now (values .entry)))) (bitsOf (now (out .entry))) ⌝ }
 {
     let mut to = at;
     let mut acc: u64 = 0;
@@ -202,7 +208,8 @@ pub fn put_all(out: &mut [u8], at: usize, widths: &[u8], values: &[u64])
 // Copies `n` bits of `src` from bit `from` on to `dst` at bit `to`, 56 at a time.
 pub fn copy(src: &[u8], from: usize, dst: &mut [u8], to: usize, n: usize)
     requires { ⌜ Inside (length (now src)) from (from + n) × Inside (length (now dst)) to (to + n) ⌝ }
-    ensures { λ r. ⌜ bitsOf (now (dst .exit)) ≡ over to (take n (drop from (bitsOf (now (src .entry))))) (bitsOf (now (dst .entry))) ⌝ }
+    ensures { λ r. ⌜ bitsOf (now (dst .exit))
+        ≡ over to (take n (drop from (bitsOf (now (src .entry))))) (bitsOf (now (dst .entry))) ⌝ }
 {
     let mut i = 0;
     while i < n {

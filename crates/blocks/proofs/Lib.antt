@@ -4,6 +4,7 @@ pub mod FaultLaws
 pub mod WidthLaws
 pub mod RunLaws
 pub mod RoomLaws
+pub mod RuleLaws
 pub mod HeaderLaws
 pub mod ReadLaws
 pub mod SlotLaws

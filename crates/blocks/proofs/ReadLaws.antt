@@ -12,11 +12,16 @@ use Rattle.bits.specs.Bits.{bitsOf, field}
 use Rattle.blocks.specs.Faults.{unless, firstOf}
 use Rattle.blocks.specs.Sdu.{isThere, bitsIn}
 use Rattle.blocks.specs.Sync.{syncOf, syncChecks}
-use Rattle.blocks.specs.Header.{runAt, shape, fragmentedIn, toIn, fromIn, shapeOf, widthIn, messageIn, bodyOf, roomOf, messageOf, rulesOf, bodyChecks, placeRules, refusedHeader, headerOf, answered, readBody, readHeader, readReported}
+use Rattle.blocks.specs.Header.{messageIn, runIn, widthIn, fieldsWith, tailOf, bodyOf, roomOf, messageOf}
+use Rattle.blocks.specs.Header.{rulesOf, bodyChecks, placeRules, refusedHeader, headerOf, answered, readBody}
+use Rattle.blocks.specs.Header.{readHeader, readReported}
 use Rattle.blocks.specs.declared.sync.Sync.{Sync}
 use Rattle.blocks.specs.declared.header.Body.{Body}
+use Rattle.blocks.specs.declared.header.Fields.{Fields}
+use Rattle.blocks.specs.declared.header.Tail.{Tail}
 use Rattle.blocks.specs.declared.header.Header.{Header}
-use Rattle.blocks.proofs.FaultLaws.{all-zero, holds, chain-none, chain-given}
+use Rattle.blocks.proofs.FaultLaws.{chain-none, chain-given}
+use Rattle.blocks.proofs.RuleLaws.{rules-hold}
 use Rattle.blocks.proofs.WidthLaws.{width-le-45}
 
 refused-answer : (n : ℕ) (r : Header) → (n ≡ 0 → ⊥) → refusedHeader n ≡ answered n r
@@ -24,8 +29,10 @@ refused-answer zero r h = absurd (h refl)
 refused-answer (suc n) r h = refl
 
 -- a chain that starts with a fault gives it
-refused-chain : (a b : List ℕ) (r : Header) {f : ℕ} → f ≡ firstOf a → (f ≡ 0 → ⊥) → refusedHeader f ≡ answered (firstOf (a ++ b)) r
-refused-chain a b r {f} q h = refused-answer f r h ∙ ap (λ (n : ℕ). answered n r) (q ∙ sym (chain-given a b (rw q at h)))
+refused-chain : (a b : List ℕ) (r : Header) {f : ℕ} → f ≡ firstOf a → (f ≡ 0 → ⊥)
+    → refusedHeader f ≡ answered (firstOf (a ++ b)) r
+refused-chain a b r {f} q h =
+    refused-answer f r h ∙ ap (λ (n : ℕ). answered n r) (q ∙ sym (chain-given a b (rw q at h)))
 
 -- ---- the elements
 
@@ -34,32 +41,32 @@ abbrev eleven : List Bool → List ℕ
 eleven b = unless (isThere (messageOf (bodyOf b) b)) 11 ∷ []
 
 -- what the rules say of a body that they pass
-pub record Held (b : List Bool) (e : Body) : Type 0 where
-  pub listed : e .width ≤ 254
-  pub fits : e .first ≤ 124
-  pub run : e .first ≡ runAt (shapeOf b) + e .width
-  pub narrow : e .width ≤ 45
+pub record Held (t : Tail) : Type 0 where
+  pub fits : t .first ≤ 124
+  pub ends : t .first ≡ t .run + t .width
+  pub narrow : t .width ≤ 45
 
-pub held : (b : List Bool) {e : Body} → e ≡ bodyOf b → firstOf (rulesOf e) ≡ 0 → Held b e
+pub held : (b : List Bool) {e : Body} → e ≡ bodyOf b → firstOf (rulesOf e) ≡ 0 → Held (e .tail)
 unfolding bodyOf widthIn
 held b {e} p z =
-    let z = all-zero (rulesOf e) z in
-    let l : e .width ≤ 254 = leb-true (e .width) 254 (holds (leb (e .width) 254) 8 (z .1 .1 .1 .0)) in
+    let k = rules-hold e z .tail in
+    let at = tailOf b in
     record {
-      listed = l;
-      fits = leb-true (e .first) 124 (holds (leb (e .first) 124) 8 (z .1 .1 .1 .1 .0));
-      run = rw p refl;
-      narrow = width-le-45 (messageIn b) (drop (runAt (shape (fragmentedIn b) (toIn b) (fromIn b) 0)) b) (ap (λ (x : Body). x .width) p) l;
+      fits = k .fits;
+      ends = rw p refl;
+      narrow = width-le-45 (messageIn at b) (drop (runIn at b) b) (ap (λ (x : Body). x .tail .width) p) (k .listed);
     }
 
 module _ (y : Sync) (b : List Bool) {e : Body} (p : e ≡ bodyOf b) where
   pub body-refused : {f : ℕ} → f ≡ firstOf (rulesOf e) → (f ≡ 0 → ⊥) → refusedHeader f ≡ readBody y b
   unfolding readBody
-  body-refused q h = refused-chain (rulesOf (bodyOf b)) (eleven b) (headerOf y b) (q ∙ ap (λ (x : Body). firstOf (rulesOf x)) p) h
+  body-refused q h =
+      refused-chain (rulesOf (bodyOf b)) (eleven b) (headerOf y b) (q ∙ ap (λ (x : Body). firstOf (rulesOf x)) p) h
 
   module _ (z : firstOf (rulesOf e) ≡ 0) where
     last-rule : firstOf (bodyChecks b) ≡ unless (isThere (messageOf e b)) 11
-    last-rule = rw p (chain-none (rulesOf (bodyOf b)) (eleven b) (rw p at z) ∙ only-one (isThere (messageOf (bodyOf b) b)))
+    last-rule =
+        rw p (chain-none (rulesOf (bodyOf b)) (eleven b) (rw p at z) ∙ only-one (isThere (messageOf (bodyOf b) b)))
       where
         only-one : (t : Bool) → firstOf (unless t 11 ∷ []) ≡ unless t 11
         only-one true = refl
@@ -70,7 +77,7 @@ module _ (y : Sync) (b : List Bool) {e : Body} (p : e ≡ bodyOf b) where
     body-eleven h = rw (last-rule, h) refl
 
     -- the answer, where nothing is refused
-    pub body-answer : (elements bits : ℕ) → elements ≡ field (e .first - e .width) (e .width) b → isThere (messageOf e b) ≡ true
+    pub body-answer : (fields : Fields) (bits : ℕ) → fields ≡ fieldsWith (e .tail) b → isThere (messageOf e b) ≡ true
         → bits ≡ length (bitsIn (messageOf e b))
         → record {
           fault = 0;
@@ -78,21 +85,12 @@ module _ (y : Sync) (b : List Bool) {e : Body} (p : e ≡ bodyOf b) where
           fragmented = e .fragmented;
           count = e .count;
           countdown = e .countdown;
-          fields = record {
-            destination = e .destination;
-            source = e .source;
-            mni = e .mni;
-            message = e .message;
-            width = e .width;
-            elements = elements;
-          };
-          first = e .first;
+          fields = fields;
+          first = e .tail .first;
           bits = bits;
         } ≡ readBody y b
-    unfolding readBody bodyOf
-    body-answer elements bits q h n =
-        let s : e .first - e .width ≡ runAt (shapeOf b) = let r = held b p z .run in omega arith in
-        rw (last-rule, h, n, q, s, p) refl
+    unfolding readBody
+    body-answer fields bits q h n = rw (last-rule, h, n, q, p) refl
 
 -- ---- the whole header
 
@@ -106,13 +104,16 @@ module _ (s h : List ℕ) where
 
   pub header-passed : firstOf (syncChecks s h) ≡ 0 → readBody sync (bitsOf h) ≡ readHeader s h
   unfolding readHeader readBody
-  header-passed z = ap (λ (n : ℕ). answered n (headerOf sync (bitsOf h))) (sym (chain-none (syncChecks s h) (bodyChecks (bitsOf h)) z))
+  header-passed z =
+      ap (λ (n : ℕ). answered n (headerOf sync (bitsOf h)))
+      (sym (chain-none (syncChecks s h) (bodyChecks (bitsOf h)) z))
 
   module _ (frame slot : ℕ) where
     abbrev later : List ℕ
     later = placeRules frame slot sync ++ bodyChecks (bitsOf h)
 
-    pub reported-refused : {f : ℕ} → f ≡ firstOf (syncChecks s h) → (f ≡ 0 → ⊥) → refusedHeader f ≡ readReported frame slot s h
+    pub reported-refused : {f : ℕ} → f ≡ firstOf (syncChecks s h) → (f ≡ 0 → ⊥)
+        → refusedHeader f ≡ readReported frame slot s h
     unfolding readReported
     reported-refused q n = refused-chain (syncChecks s h) later (headerOf sync (bitsOf h)) q n
 
@@ -124,22 +125,11 @@ module _ (s h : List ℕ) where
       pub other-frame : eqb (sync .frame) frame ≡ false → refusedHeader 18 ≡ readReported frame slot s h
       other-frame e = rw e at later-rules
 
-      pub other-slot : eqb (sync .frame) frame ≡ true → eqb (sync .slot + 1) slot ≡ false → refusedHeader 18 ≡ readReported frame slot s h
+      pub other-slot : eqb (sync .frame) frame ≡ true → eqb (sync .slot + 1) slot ≡ false
+          → refusedHeader 18 ≡ readReported frame slot s h
       other-slot e g = rw (e, g) at later-rules
 
-      pub reported-passed : eqb (sync .frame) frame ≡ true → eqb (sync .slot + 1) slot ≡ true → readBody sync (bitsOf h) ≡ readReported frame slot s h
+      pub reported-passed : eqb (sync .frame) frame ≡ true → eqb (sync .slot + 1) slot ≡ true
+          → readBody sync (bitsOf h) ≡ readReported frame slot s h
       unfolding readBody
       reported-passed e g = rw (e, g) at later-rules
-
-  -- what the first seven rules say of the lent blocks' lengths
-  pub lengths : firstOf (syncChecks s h) ≡ 0 → (length s ≡ 8) × (length h ≡ 16)
-  unfolding syncChecks
-  lengths z =
-      let z = all-zero (syncChecks s h) z in
-      (eqb-true (length s) 8 (holds (eqb (length s) 8) 0 (z .0)), eqb-true (length h) 16 (holds (eqb (length h) 16) 0 (z .1 .0)))
-
--- ---- the DM-SDU's room
-
--- the DM-SDU's first bit and its room make 124 bits
-pub room-length : (b : List Bool) {e : Body} → length b ≡ 128 → Held b e → e .first + length (roomOf e b) ≡ 124
-room-length b {e} l k = rw (length-slice (e .first) 124 b (omega arith)) (let f = k .fits in omega arith)

@@ -89,4 +89,5 @@ module _ (m w e : ℕ) {E : Entry} (p : E ≡ entryOf m) where
     unfolding runFits
     run-read r run z q s =
         rw (listed, lt-ltb e (2 ^ w) (shifted-out e w z))
-        (ap (λ (x : ℕ). eqb x w) (s ∙ ap (widthOf (entryOf m)) (q ∙ run-bits w e) ∙ width-pad (entryOf m) (bitsN w e) (64 - w)))
+        (ap (λ (x : ℕ). eqb x w)
+        (s ∙ ap (widthOf (entryOf m)) (q ∙ run-bits w e) ∙ width-pad (entryOf m) (bitsN w e) (64 - w)))

@@ -31,7 +31,8 @@ near? e =
     (both (leb (e .flag2) 10)
     (both (leb (e .adds2) 12)
     (both (either (leb (e .width) 21) (eqb (e .width) 255))
-    (both (either (eqb (e .adds) 0) (ltb (e .flag) (e .width))) (either (eqb (e .adds2) 0) (ltb (e .flag2) (e .width))))))))
+    (both (either (eqb (e .adds) 0) (ltb (e .flag) (e .width)))
+    (either (eqb (e .adds2) 0) (ltb (e .flag2) (e .width))))))))
 
 nearly : (e : Entry) → T (near? e) → Near e
 nearly e t₀ =
@@ -75,7 +76,11 @@ width-range : (e : Entry) (run : List Bool) → Near e → (e .width ≤ widthOf
 unfolding widthOf
 width-range e run s =
     let a = added (field (e .flag) 1 run) (e .adds) in
-    omega (arith, added-le {a = a} (field (e .flag) 1 run) (e .adds) refl, added-le {a = added (field (a + e .flag2) 1 run) (e .adds2)} (field (a + e .flag2) 1 run) (e .adds2) refl)
+    omega (
+      arith,
+      added-le {a = a} (field (e .flag) 1 run) (e .adds) refl,
+      added-le {a = added (field (a + e .flag2) 1 run) (e .adds2)} (field (a + e .flag2) 1 run) (e .adds2) refl,
+    )
 
 pub width-le-279 : {w : ℕ} (m : ℕ) (run : List Bool) → w ≡ widthOf (entryOf m) run → w ≤ 279
 width-le-279 m run e =
@@ -105,13 +110,17 @@ field-drop at p b = ap (λ (l : List Bool). num (take 1 l)) (sym (drop-drop p at
 
 -- what the code makes of an entry and its two flags
 pub width-read : (m at : ℕ) (b : List Bool) (e : Entry) (f₁ a₁ f₂ a₂ : ℕ) → e ≡ entryOf m
-    → f₁ ≡ field (at + e .flag) 1 b → a₁ ≡ added f₁ (e .adds) → f₂ ≡ field (at + (a₁ + e .flag2)) 1 b → a₂ ≡ added f₂ (e .adds2)
+    → f₁ ≡ field (at + e .flag) 1 b → a₁ ≡ added f₁ (e .adds) → f₂ ≡ field (at + (a₁ + e .flag2)) 1 b
+    → a₂ ≡ added f₂ (e .adds2)
     → e .width + a₁ + a₂ ≡ widthOf (entryOf m) (drop at b)
 unfolding widthOf
 width-read m at b e f₁ a₁ f₂ a₂ p q₁ r₁ q₂ r₂ =
-    let s₁ : a₁ ≡ added (field (e .flag) 1 (drop at b)) (e .adds) = r₁ ∙ ap (λ (x : ℕ). added x (e .adds)) (q₁ ∙ field-drop at (e .flag) b) in
-    let s₂ : a₂ ≡ added (field (a₁ + e .flag2) 1 (drop at b)) (e .adds2) = r₂ ∙ ap (λ (x : ℕ). added x (e .adds2)) (q₂ ∙ field-drop at (a₁ + e .flag2) b) in
-    ap₂ (λ (x y : ℕ). e .width + x + y) s₁ (s₂ ∙ ap (λ (x : ℕ). added (field (x + e .flag2) 1 (drop at b)) (e .adds2)) s₁)
+    let s₁ : a₁ ≡ added (field (e .flag) 1 (drop at b)) (e .adds) =
+    r₁ ∙ ap (λ (x : ℕ). added x (e .adds)) (q₁ ∙ field-drop at (e .flag) b) in
+    let s₂ : a₂ ≡ added (field (a₁ + e .flag2) 1 (drop at b)) (e .adds2) =
+    r₂ ∙ ap (λ (x : ℕ). added x (e .adds2)) (q₂ ∙ field-drop at (a₁ + e .flag2) b) in
+    ap₂ (λ (x y : ℕ). e .width + x + y) s₁
+    (s₂ ∙ ap (λ (x : ℕ). added (field (x + e .flag2) 1 (drop at b)) (e .adds2)) s₁)
     ∙ ap (λ (x : Entry). widthOf x (drop at b)) p
 
 -- ---- what follows the elements does not count
@@ -131,7 +140,8 @@ flag-when true t p a w x y e = inl (eqb-true a 0 x)
 flag-when false true p a w x y e = inr (ltb-true p w y)
 flag-when false false p a w x y e = let z : _≡_ {A = ℕ} 0 1 = cc in absurd (omega arith)
 
-added-in : (p a : ℕ) (l rest : List Bool) → (a ≡ 0) ⊎ (p < length l) → added (field p 1 (l ++ rest)) a ≡ added (field p 1 l) a
+added-in : (p a : ℕ) (l rest : List Bool) → (a ≡ 0) ⊎ (p < length l)
+    → added (field p 1 (l ++ rest)) a ≡ added (field p 1 l) a
 added-in p a l rest (inl z) = rw z (added-none (eqb (field p 1 (l ++ rest)) 1) ∙ sym (added-none (eqb (field p 1 l) 1)))
 added-in p a l rest (inr h) = rw (field-in p l rest h) refl
 
@@ -140,11 +150,13 @@ module _ (m : ℕ) (l rest : List Bool) where
   abbrev e : Entry
   e = entryOf m
 
-  first-same : e .width ≤ length l → added (field (e .flag) 1 (l ++ rest)) (e .adds) ≡ added (field (e .flag) 1 l) (e .adds)
+  first-same : e .width ≤ length l
+      → added (field (e .flag) 1 (l ++ rest)) (e .adds) ≡ added (field (e .flag) 1 l) (e .adds)
   first-same h =
       let s = near-entry m {e = e} refl in
       added-in (e .flag) (e .adds) l rest
-      (⊎-elim inl (λ p. inr (omega arith)) (flag-when (eqb (e .adds) 0) (ltb (e .flag) (e .width)) (e .flag) (e .adds) (e .width) refl refl (s .within)))
+      (⊎-elim inl (λ p. inr (omega arith))
+      (flag-when (eqb (e .adds) 0) (ltb (e .flag) (e .width)) (e .flag) (e .adds) (e .width) refl refl (s .within)))
 
   same-width : e .width + added (field (e .flag) 1 l) (e .adds) ≤ length l → widthOf e (l ++ rest) ≡ widthOf e l
   unfolding widthOf
@@ -153,7 +165,9 @@ module _ (m : ℕ) (l rest : List Bool) where
       let a = added (field (e .flag) 1 l) (e .adds) in
       let second : added (field (a + e .flag2) 1 (l ++ rest)) (e .adds2) ≡ added (field (a + e .flag2) 1 l) (e .adds2) =
       added-in (a + e .flag2) (e .adds2) l rest
-      (⊎-elim inl (λ p. inr (omega arith)) (flag-when (eqb (e .adds2) 0) (ltb (e .flag2) (e .width)) (e .flag2) (e .adds2) (e .width) refl refl (s .within2))) in
+      (⊎-elim inl (λ p. inr (omega arith))
+      (flag-when (eqb (e .adds2) 0) (ltb (e .flag2) (e .width)) (e .flag2) (e .adds2) (e .width) refl refl
+      (s .within2))) in
       rw (first-same (omega arith), second) refl
 
   -- so it does where its length is that width, with or without what follows

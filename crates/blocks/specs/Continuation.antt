@@ -42,7 +42,8 @@ abbrev pub refusedBlock : ℕ → Continuation
 refusedBlock fault = record { fault = fault; last = 0; first = 0; bits = 0 }
 
 abbrev pub continuationOf : List Bool → Continuation
-continuationOf b = record { fault = 0; last = element continuationLayout 1 b; first = 4; bits = length (bitsIn (blockMessage b)) }
+continuationOf b =
+    record { fault = 0; last = element continuationLayout 1 b; first = 4; bits = length (bitsIn (blockMessage b)) }
 
 abbrev pub answered : ℕ → Continuation → Continuation
 answered zero r = r

@@ -10,13 +10,23 @@ use Rattle.blocks.specs.declared.slots.Due.{Due}
 abbrev pub nextFrame : ℕ → ℕ
 nextFrame x = x % 18 + 1
 
--- The frame of the first block, after a header in frame x with countdown f: the one after the last repeat's, or frame 1 where that is 18.
-abbrev pub firstFrame : ℕ → ℕ → ℕ
-firstFrame x f = cond (eqb (nextFrame (x + f)) 18) 1 (nextFrame (x + f))
+-- The number of the frame that comes k frames after frame x.
+abbrev pub frameNumber : ℕ → ℕ → ℕ
+frameNumber x k = nextFrame (x + k - 1)
 
--- The frame of block i, from 0: successive frames of 1 to 17.
+-- k frames after frame x, or one more where that is frame 18.
+abbrev pub passing : ℕ → ℕ → ℕ
+passing x k = cond (eqb (frameNumber x k) 18) (suc k) k
+
+-- The frames from X, in which a header stands with countdown f, to that of block i, from 0: successive frames of 1 to
+-- 17 after that of the last repeat, which is f frames after X.
+abbrev pub framesTo : ℕ → ℕ → ℕ → ℕ
+framesTo x f zero = passing x (suc f)
+framesTo x f (suc i) = passing x (suc (framesTo x f i))
+
+-- The number of that frame.
 abbrev pub dueFrame : ℕ → ℕ → ℕ → ℕ
-dueFrame x f i = (firstFrame x f - 1 + i) % 17 + 1
+dueFrame x f i = frameNumber x (framesTo x f i)
 
 -- The layout call is refused in this order.
 abbrev pub dueChecks : ℕ → ℕ → ℕ → List ℕ

@@ -30,10 +30,16 @@ syncParts y = partsWith syncLayout (y .system ∷ 0 ∷ 0 ∷ 0 ∷ y .usage ∷
 
 -- The fields as they stand in a block.
 unfoldable pub syncOf : List Bool → Sync
-syncOf b = record { system = element syncLayout 0 b; usage = element syncLayout 4 b; slot = element syncLayout 5 b; frame = element syncLayout 6 b }
+syncOf b =
+    record {
+      system = element syncLayout 0 b;
+      usage = element syncLayout 4 b;
+      slot = element syncLayout 5 b;
+      frame = element syncLayout 6 b;
+    }
 
--- Faults 2 to 7, in their order: pad bits of SCH/S and of SCH/H, system code of direct mode (10 to 15), SYNC PDU type, communication type, encryption,
--- frame number.
+-- Faults 2 to 7, in their order: pad bits of SCH/S and of SCH/H, system code of direct mode (10 to 15), SYNC PDU type,
+-- communication type, encryption, frame number.
 abbrev pub syncRules : ℕ → ℕ → ℕ → ℕ → ℕ → ℕ → ℕ → List ℕ
 syncRules pad other system pdu communication encryption frame =
     unless (eqb pad 0) 2 ∷
@@ -52,5 +58,6 @@ syncChecks s h =
     let b = bitsOf s in
     unless (eqb (length s) 8) 1 ∷
     unless (eqb (length h) 16) 1 ∷
-    syncRules (element syncLayout 9 b) (field 124 4 (bitsOf h)) (element syncLayout 0 b) (element syncLayout 1 b) (element syncLayout 2 b) (element syncLayout 7 b)
+    syncRules (element syncLayout 9 b) (field 124 4 (bitsOf h)) (element syncLayout 0 b) (element syncLayout 1 b)
+    (element syncLayout 2 b) (element syncLayout 7 b)
     (element syncLayout 6 b)

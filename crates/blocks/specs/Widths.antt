@@ -40,7 +40,7 @@ table =
     fixed 21 ∷  -- 12 DM-CONNECT ACK, 9.5.5
     fixed 21 ∷  -- 13 DM-OCCUPIED, 9.5.6
     fixed 0 ∷  -- 14 DM-RELEASE, 9.5.7
-    flagged-twice 13 7 8 10 12 ∷  -- 15 DM-TX CEASED, 9.5.8: requests flag, requests bitmap; timing change announced, timing adjustment
+    flagged-twice 13 7 8 10 12 ∷  -- 15 DM-TX CEASED, 9.5.8: requests flag, bitmap; timing change announced, adjustment
     flagged 3 0 12 ∷  -- 16 DM-TX REQUEST, 9.5.9: timing change required, timing adjustment
     flagged 1 0 12 ∷  -- 17 DM-TX ACCEPT, 9.5.10: timing change announced, timing adjustment
     flagged 10 2 12 ∷  -- 18 DM-PREEMPT, 9.5.11: timing change required, timing adjustment
@@ -76,8 +76,8 @@ widthOf e run =
     let a = added (field (e .flag) 1 run) (e .adds) in
     e .width + a + added (field (a + e .flag2) 1 run) (e .adds2)
 
--- Whether a run of elements is one that the table has: its width is that of the case that its own flags name, and its number fits. A message type without entry is
--- not tested.
+-- Whether a run of elements is one that the table has: its width is that of the case that its own flags name, and its
+-- number fits. A message type without entry is not tested.
 abbrev pub runHolds : Bool → Bool → Bool → Bool
 runHolds false small right = true
 runHolds true false right = false
@@ -85,4 +85,5 @@ runHolds true true right = right
 
 unfoldable pub runFits : ℕ → ℕ → ℕ → Bool
 runFits message width elements =
-    runHolds (leb (entryOf message .width) 254) (ltb elements (2 ^ width)) (eqb (widthOf (entryOf message) (bitsN width elements)) width)
+    runHolds (leb (entryOf message .width) 254) (ltb elements (2 ^ width))
+    (eqb (widthOf (entryOf message) (bitsN width elements)) width)

@@ -1,11 +1,12 @@
 // SCH/F with a continuation block: DMAC-FRAG or DMAC-END.
 ghost use mathlib.Core.Path.{_≡_};
 ghost use Rattle.blocks.specs.Continuation.{refusedBlock, readContinuation};
+use crate::fault::Fault;
 use crate::sizes::SchF;
 use bits::Found;
 
-// A continuation block that was read; where it was refused, all but the fault is 0. `last` is 1 for DMAC-END, `first` the DM-SDU's first bit
-// and `bits` the number of its message bits.
+// A continuation block that was read; where it was refused, all but the fault is 0. `last` is 1 for DMAC-END, `first`
+// the DM-SDU's first bit and `bits` the number of its message bits.
 #[repr(C)]
 pub struct Continuation {
     pub fault: u8,
@@ -30,18 +31,18 @@ pub fn read_continuation(s: &[u8]) -> Continuation
     ensures { λ r. ⌜ r ≡ readContinuation (now (s .entry)) ⌝ }
 {
     if s.len() != SchF::BYTES {
-        return refused(1);
+        return refused(Fault::LENGTH);
     }
     if bits::get8(s, 268, 4) != 0 {
-        return refused(2);
+        return refused(Fault::PAD);
     }
     if bits::get8(s, 0, 2) != 1 {
-        return refused(12);
+        return refused(Fault::PDU_TYPE);
     }
     let last = bits::get8(s, 2, 1);
     let fill = bits::get8(s, 3, 1);
     let Found::At(end) = crate::sdu::sdu_end(s, fill, 4, SchF::BITS) else {
-        return refused(11);
+        return refused(Fault::FILL);
     };
     Continuation {
         fault: 0,

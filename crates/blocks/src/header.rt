@@ -2,9 +2,12 @@
 ghost use mathlib.Core.Path.{_≡_};
 ghost use Prim.Native.Nat.{_+_, _*_, _≤_};
 ghost use lib.ListN.{length};
-ghost use Rattle.bits.specs.Bits.{bitsOf};
+ghost use Rattle.bits.specs.Bits.{bitsOf, Inside};
 ghost use Rattle.blocks.specs.Faults.{firstOf};
-ghost use Rattle.blocks.specs.Header.{addressWidth, addressAt, bodyOf, bodyRules, refusedHeader, readBody, readHeader, readReported};
+ghost use Rattle.blocks.specs.Header.{addressWidth, addressAt, tailAt, tailRules, fieldsWith, shape, sduAt};
+ghost use Rattle.blocks.specs.Header.{bodyOf, bodyRules, no-fields, refusedHeader, readBody, readHeader};
+ghost use Rattle.blocks.specs.Header.{readReported};
+use crate::fault::Fault;
 use crate::sizes::SchH;
 use crate::sync::Sync;
 use bits::Found;
@@ -16,7 +19,8 @@ pub struct Address {
     pub ssi: u32,
 }
 
-// What a message's header says of it: addresses, MNI, message type, and the dependent elements as one run of bits with its width.
+// What a message's header says of it: addresses, MNI, message type, and the dependent elements as one run of bits with
+// its width.
 #[repr(C)]
 pub struct Fields {
     pub destination: Address,
@@ -27,8 +31,8 @@ pub struct Fields {
     pub elements: u64,
 }
 
-// A header that was read; where it was refused, all but the fault is 0. `fragmented` is the flag, `count` the number of SCH/F slots,
-// `first` the DM-SDU's first bit in SCH/H and `bits` the number of its message bits.
+// A header that was read; where it was refused, all but the fault is 0. `fragmented` is the flag, `count` the number of
+// SCH/F slots, `first` the DM-SDU's first bit in SCH/H and `bits` the number of its message bits.
 #[repr(C)]
 pub struct Header {
     pub fault: u8,
@@ -39,6 +43,20 @@ pub struct Header {
     pub fields: Fields,
     pub first: usize,
     pub bits: usize,
+}
+
+// No fields: each is 0.
+pub fn no_fields() -> Fields
+    ensures { λ r. ⌜ r ≡ no-fields ⌝ }
+{
+    Fields {
+        destination: Address { kind: 0, ssi: 0 },
+        source: Address { kind: 0, ssi: 0 },
+        mni: 0,
+        message: 0,
+        width: 0,
+        elements: 0,
+    }
 }
 
 fn refused(fault: u8) -> Header
@@ -55,14 +73,7 @@ fn refused(fault: u8) -> Header
         fragmented: 0,
         count: 0,
         countdown: 0,
-        fields: Fields {
-            destination: Address { kind: 0, ssi: 0 },
-            source: Address { kind: 0, ssi: 0 },
-            mni: 0,
-            message: 0,
-            width: 0,
-            elements: 0,
-        },
+        fields: no_fields(),
         first: 0,
         bits: 0,
     }
@@ -94,18 +105,96 @@ fn address_at(h: &[u8], at: usize) -> Addressed
     }
 }
 
-// SCH/H as it stands, before it is judged; `first` is the bit after its elements.
+// The addressed tail of a PDU as it stands, before it is judged; `run` is the first bit of its message dependent
+// elements and `first` the bit after them.
+pub(crate) struct Tail {
+    destination: Address,
+    source: Address,
+    mni: u32,
+    message: u8,
+    run: usize,
+    width: usize,
+    first: usize,
+}
+
+// The tail that starts at bit `at` of a lent block.
+pub(crate) fn tail_at(h: &[u8], at: usize) -> Tail
+    requires { ⌜ (at + 104 ≤ 8 * length (now h)) × (at ≤ 2048) ⌝ }
+    ensures { λ r. ⌜ r ≡ tailAt at (bitsOf (now (h .entry))) ⌝ }
+{
+    let d = address_at(h, at);
+    let s = address_at(h, d.next);
+    let mni = bits::get32(h, s.next, 24);
+    let message = bits::get8(h, s.next + 24, 5);
+    let run = s.next + 24 + 5;
+    let width = crate::widths::width_at(h, run, message);
+    let destination = d.address;
+    let source = s.address;
+    Tail {
+        destination,
+        source,
+        mni,
+        message,
+        run,
+        width,
+        first: run + width,
+    }
+}
+
+// The first of the faults 8 and 9 that a tail's elements give in a block whose room ends before bit `end`, 0 where they
+// give none.
+pub(crate) fn tail_rules(to: u8, from: u8, width: usize, first: usize, end: usize) -> u8
+    ensures { λ r. ⌜ r ≡ firstOf (tailRules to from width first end) ⌝ }
+{
+    if 2 < to {
+        return Fault::ADDRESS_TYPE;
+    }
+    if 2 < from {
+        return Fault::ADDRESS_TYPE;
+    }
+    if 254 < width {
+        return Fault::MESSAGE_TYPE;
+    }
+    if end < first {
+        return Fault::MESSAGE_TYPE;
+    }
+    0
+}
+
+// A tail's fields.
+pub(crate) fn tail_fields(h: &[u8], t: Tail) -> Fields
+    requires { ⌜ (t .width ≤ 45) × Inside (length (now h)) (t .run) (t .run + t .width) ⌝ }
+    ensures { λ r. ⌜ r ≡ fieldsWith t (bitsOf (now (h .entry))) ⌝ }
+{
+    let elements = bits::get(h, t.run, t.width);
+    let destination = t.destination;
+    let source = t.source;
+    Fields {
+        destination,
+        source,
+        mni: t.mni,
+        message: t.message,
+        width: t.width as u8,
+        elements,
+    }
+}
+
+// The bits of SCH/H's elements, up to the DM-SDU.
+pub fn header_bits(fragmented: u8, to: u8, from: u8, width: u8) -> usize
+    ensures { λ r. ⌜ r ≡ sduAt (shape fragmented to from width) ⌝ }
+{
+    let d = address_width(to);
+    let s = address_width(from);
+    12 + 4 * (fragmented as usize) + 2 + 2 + d + 2 + s + 24 + 5 + (width as usize)
+}
+
+// SCH/H as it stands, before it is judged.
 struct Body {
     fill: u8,
     fragmented: u8,
     count: u8,
     countdown: u8,
-    destination: Address,
-    source: Address,
-    mni: u32,
-    message: u8,
-    width: usize,
-    first: usize,
+    tail: Tail,
 }
 
 fn body_of(h: &[u8]) -> Body
@@ -118,25 +207,13 @@ fn body_of(h: &[u8]) -> Body
     let count = bits::get8(h, 12, counted);
     let at = 12 + counted;
     let countdown = bits::get8(h, at, 2);
-    let d = address_at(h, at + 2);
-    let s = address_at(h, d.next);
-    let mni = bits::get32(h, s.next, 24);
-    let message = bits::get8(h, s.next + 24, 5);
-    let run = s.next + 24 + 5;
-    let width = crate::widths::width_at(h, run, message);
-    let destination = d.address;
-    let source = s.address;
+    let tail = tail_at(h, at + 2);
     Body {
         fill,
         fragmented,
         count,
         countdown,
-        destination,
-        source,
-        mni,
-        message,
-        width,
-        first: run + width,
+        tail,
     }
 }
 
@@ -145,57 +222,37 @@ fn body_rules(fragmented: u8, count: u8, to: u8, from: u8, width: usize, first: 
     ensures { λ r. ⌜ r ≡ firstOf (bodyRules fragmented count to from width first) ⌝ }
 {
     if count < fragmented {
-        return 10;
+        return Fault::COUNT;
     }
-    if 2 < to {
-        return 8;
-    }
-    if 2 < from {
-        return 8;
-    }
-    if 254 < width {
-        return 9;
-    }
-    if SchH::BITS < first {
-        return 9;
-    }
-    0
+    tail_rules(to, from, width, first, SchH::BITS)
 }
 
-// What follows SCH/S's part: the faults from 10 on, the fields and the DM-SDU. The length is tested so that the compiler, too, knows it.
+// What follows SCH/S's part: the faults from 10 on, the fields and the DM-SDU. The length is tested so that the
+// compiler, too, knows it.
 fn read_body(sync: Sync, h: &[u8]) -> Header
     requires { ⌜ length (now h) ≡ 16 ⌝ }
     ensures { λ r. ⌜ r ≡ readBody sync (bitsOf (now (h .entry))) ⌝ }
 {
     if h.len() != SchH::BYTES {
-        return refused(1);
+        return refused(Fault::LENGTH);
     }
     let b = body_of(h);
+    let t = b.tail;
     let fault = body_rules(
         b.fragmented,
         b.count,
-        b.destination.kind,
-        b.source.kind,
-        b.width,
-        b.first,
+        t.destination.kind,
+        t.source.kind,
+        t.width,
+        t.first,
     );
     if fault != 0 {
         return refused(fault);
     }
-    let Found::At(end) = crate::sdu::sdu_end(h, b.fill, b.first, SchH::BITS) else {
-        return refused(11);
+    let Found::At(end) = crate::sdu::sdu_end(h, b.fill, t.first, SchH::BITS) else {
+        return refused(Fault::FILL);
     };
-    let elements = bits::get(h, b.first - b.width, b.width);
-    let destination = b.destination;
-    let source = b.source;
-    let fields = Fields {
-        destination,
-        source,
-        mni: b.mni,
-        message: b.message,
-        width: b.width as u8,
-        elements,
-    };
+    let fields = tail_fields(h, t);
     Header {
         fault: 0,
         sync,
@@ -203,8 +260,8 @@ fn read_body(sync: Sync, h: &[u8]) -> Header
         count: b.count,
         countdown: b.countdown,
         fields,
-        first: b.first,
-        bits: end - b.first,
+        first: t.first,
+        bits: end - t.first,
     }
 }
 
@@ -229,10 +286,10 @@ pub fn read_reported(frame: u8, slot: u8, s: &[u8], h: &[u8]) -> Header
     }
     let sync = crate::sync::sync_of(s);
     if sync.frame != frame {
-        return refused(18);
+        return refused(Fault::PLACE);
     }
     if sync.slot + 1 != slot {
-        return refused(18);
+        return refused(Fault::PLACE);
     }
     read_body(sync, h)
 }

@@ -7,7 +7,8 @@ ghost use Rattle.bits.specs.Fill.{foundAt};
 ghost use Rattle.blocks.specs.Sdu.{sduOf};
 use bits::Found;
 
-// Where the message ends in the room from bit `from` up to bit `to`; nowhere, where fill is told of and the room holds no 1.
+// Where the message ends in the room from bit `from` up to bit `to`; nowhere, where fill is told of and the room holds
+// no 1.
 pub(crate) fn sdu_end(s: &[u8], fill: u8, from: usize, to: usize) -> Found
     requires { ⌜ Inside (length (now s)) from to ⌝ }
     ensures { λ r. ⌜ r ≡ foundAt from (sduOf fill (slice from to (bitsOf (now (s .entry))))) ⌝ }

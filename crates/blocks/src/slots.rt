@@ -1,6 +1,8 @@
 // The layout of a fragmented message over slots.
 ghost use mathlib.Core.Path.{_≡_};
-ghost use Rattle.blocks.specs.Slots.{dueOf};
+ghost use Prim.Native.Nat.{_≤_};
+ghost use Rattle.blocks.specs.Slots.{dueFrame, dueOf};
+use crate::fault::Fault;
 
 // A frame, or the number of the refusal.
 #[repr(C)]
@@ -9,37 +11,48 @@ pub struct Due {
     pub frame: u8,
 }
 
+// The frame of block `i`, from 0, after a header in frame `x` with countdown `f`.
+pub fn frame_of(x: u8, f: u8, i: u8) -> u8
+    requires { ⌜ (x ≤ 18) × (f ≤ 3) × (i ≤ 14) ⌝ }
+    ensures { λ r. ⌜ r ≡ dueFrame x f i ⌝ }
+{
+    let y = (x + f) % 18 + 1;
+    if y == 18 {
+        return i % 17 + 1;
+    }
+    (y - 1 + i) % 17 + 1
+}
+
 // The frame of block `i`, from 0, of a message whose header stands in frame `x` with countdown `f`.
 pub fn due_frame(x: u8, f: u8, i: u8) -> Due
     ensures { λ r. ⌜ r ≡ dueOf x f i ⌝ }
 {
     if x < 1 {
-        return Due { fault: 7, frame: 0 };
+        return Due {
+            fault: Fault::FRAME,
+            frame: 0,
+        };
     }
     if 18 < x {
-        return Due { fault: 7, frame: 0 };
+        return Due {
+            fault: Fault::FRAME,
+            frame: 0,
+        };
     }
     if 3 < f {
         return Due {
-            fault: 13,
+            fault: Fault::RANGE,
             frame: 0,
         };
     }
     if 14 < i {
         return Due {
-            fault: 14,
+            fault: Fault::TOO_LONG,
             frame: 0,
-        };
-    }
-    let y = (x + f) % 18 + 1;
-    if y == 18 {
-        return Due {
-            fault: 0,
-            frame: i % 17 + 1,
         };
     }
     Due {
         fault: 0,
-        frame: (y - 1 + i) % 17 + 1,
+        frame: frame_of(x, f, i),
     }
 }

@@ -4,6 +4,7 @@ ghost use lib.ListN.{length};
 ghost use Rattle.bits.specs.Bits.{bitsOf};
 ghost use Rattle.blocks.specs.Faults.{firstOf};
 ghost use Rattle.blocks.specs.Sync.{syncOf, syncRules, syncChecks};
+use crate::fault::Fault;
 use crate::sizes::SchH;
 use crate::sizes::SchS;
 
@@ -29,28 +30,28 @@ fn sync_rules(
     ensures { λ r. ⌜ r ≡ firstOf (syncRules pad other system pdu communication encryption frame) ⌝ }
 {
     if pad != 0 {
-        return 2;
+        return Fault::PAD;
     }
     if other != 0 {
-        return 2;
+        return Fault::PAD;
     }
     if system < 10 {
-        return 3;
+        return Fault::SYSTEM;
     }
     if pdu != 0 {
-        return 4;
+        return Fault::SYNC_TYPE;
     }
     if communication != 0 {
-        return 5;
+        return Fault::COMMUNICATION;
     }
     if encryption != 0 {
-        return 6;
+        return Fault::ENCRYPTION;
     }
     if frame < 1 {
-        return 7;
+        return Fault::FRAME;
     }
     if 18 < frame {
-        return 7;
+        return Fault::FRAME;
     }
     0
 }
@@ -60,10 +61,10 @@ pub(crate) fn sync_fault(s: &[u8], h: &[u8]) -> u8
     ensures { λ r. ⌜ r ≡ firstOf (syncChecks (now (s .entry)) (now (h .entry))) ⌝ }
 {
     if s.len() != SchS::BYTES {
-        return 1;
+        return Fault::LENGTH;
     }
     if h.len() != SchH::BYTES {
-        return 1;
+        return Fault::LENGTH;
     }
     let pad = bits::get8(s, 60, 4);
     let other = bits::get8(h, 124, 4);

@@ -5,8 +5,8 @@ ghost use lib.ListN.{length, drop};
 ghost use Rattle.bits.specs.Bits.{bitsOf};
 ghost use Rattle.blocks.specs.Widths.{entryOf, added, widthOf, runFits};
 
-// The width of a message's elements with no flag set; the place of a flag in them and the bits that an element adds which hangs on it, twice.
-// The second flag's place is counted without what the first adds.
+// The width of a message's elements with no flag set; the place of a flag in them and the bits that an element adds
+// which hangs on it, twice. The second flag's place is counted without what the first adds.
 pub struct Entry {
     pub width: u8,
     pub flag: u8,

@@ -6,7 +6,7 @@ ghost use Rattle.blocks.specs.Header.{readHeader};
 ghost use Rattle.blocks.specs.Slots.{dueOf};
 ghost use Rattle.build.specs.Build.{buildOf, outOf};
 ghost use Rattle.reports.specs.Lent.{lent};
-ghost use Rattle.receiver.specs.Held.{freshOf};
+ghost use Rattle.receiver.specs.View.{freshOf};
 ghost use Rattle.receiver.specs.Reached.{Reached, Hears};
 ghost use Rattle.transport.specs.Reading.{readOf};
 ghost use Rattle.transport.specs.Building.{sduOf, outOf as sduIn};

@@ -6,6 +6,7 @@ ghost use lib.ListN.{length, take};
 ghost use Rattle.history.specs.Line.{start};
 ghost use Rattle.bookings.specs.Kept.{bookingsAt, Reached, isIn, enteredIn};
 ghost use Rattle.bookings.specs.Book.{lent, readingOf, Books};
+use blocks::fault::Fault;
 use blocks::header::Fields;
 use transport::Transport;
 
@@ -73,7 +74,7 @@ fn reading(fields: Fields, n: usize, sdu: &[u8]) -> Transport
     if fields.source.ssi < 16777216 {
         return transport::read(fields, n, sdu);
     }
-    transport::refused(13)
+    transport::refused(Fault::RANGE)
 }
 
 impl Bookings {

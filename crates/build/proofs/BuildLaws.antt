@@ -11,15 +11,18 @@ use native.Mathlib.Nat.{min-le-left}
 use borrow.Author.Tests.{ne-eqb, leb-true, leb-false}
 use Rattle.bits.specs.Bits.{bitsN, over}
 use Rattle.bits.specs.Fill.{fillBits, filled}
-use Rattle.bits.specs.Layout.{Part, pack, partsWith, total, AllFit, AllNarrow}
+use Rattle.bits.specs.Layout.{pack, AllFit, AllNarrow}
 use Rattle.bits.proofs.Numbers.{bitsN-zero, take-of-drop}
 use Rattle.bits.proofs.Over.{over-over}
 use Rattle.bits.proofs.Filling.{length-fillBits, length-filled}
 use Rattle.bits.proofs.Packing.{length-pack}
 use Rattle.blocks.specs.Sdu.{fillTold}
 use Rattle.blocks.specs.Continuation.{continuationParts}
-use Rattle.build.specs.Build.{roomBits, headerBlock, continuationBlock, lastWhen, continuationBlocks, HeaderFits}
-use Rattle.blocks.specs.Header.{addressWidth}
+use Rattle.build.specs.Build.{roomBits, shapeFor, headerParts, headerBlock, continuationBlock, lastWhen}
+use Rattle.build.specs.Build.{continuationBlocks}
+use Rattle.build.specs.Build.{HeaderFits}
+use Rattle.blocks.specs.Header.{headerLayout, sduAt}
+use Rattle.blocks.proofs.HeaderLaws.{addressWidth-le}
 use Rattle.blocks.specs.declared.header.Fields.{Fields}
 
 -- a part of a message
@@ -29,7 +32,8 @@ length-part count from b h = rw (length-take count (drop from b), length-drop fr
 -- ---- the room: message, fill, pad
 
 pub room-put : (at count room : ℕ) (m b : List Bool) → length m ≡ count → count ≤ room → at + room + 4 ≤ length b
-    → over (at + room) (bitsN 4 0) (over (at + count) (fillBits (at + room - (at + count))) (over at m b)) ≡ over at (roomBits room m) b
+    → over (at + room) (bitsN 4 0) (over (at + count) (fillBits (at + room - (at + count))) (over at m b))
+    ≡ over at (roomBits room m) b
 unfolding filled
 room-put at count room m b e h l =
     let f = fillBits (room - length m) in
@@ -42,9 +46,10 @@ room-put at count room m b e h l =
     ∙ over-over at (m ++ f) (replicate 4 false) b (omega arith))
 
 pub length-roomBits : (room : ℕ) (m : List Bool) → length m ≤ room → length (roomBits room m) ≡ room + 4
-length-roomBits room m h = length-append (filled room m) (replicate 4 false) ∙ ap (λ (x : ℕ). x + 4) (length-filled room m h)
+length-roomBits room m h =
+    length-append (filled room m) (replicate 4 false) ∙ ap (λ (x : ℕ). x + 4) (length-filled room m h)
 
-told-le : (t : Bool) → cond t 1 0 ≤ 1
+pub told-le : (t : Bool) → cond t 1 0 ≤ 1
 told-le true = omega arith
 told-le false = omega arith
 
@@ -53,15 +58,18 @@ fill-flag count room e = rw e (told-le (ltb count room))
 
 -- ---- a continuation block
 
-pub block-put : (at last count fill : ℕ) (m b : List Bool) → length m ≡ count → fill ≡ cond (ltb count 264) 1 0 → count ≤ 264 → at + 272 ≤ length b
-    → over (at + 4) (roomBits 264 m) (over at (pack (continuationParts last fill)) b) ≡ over at (continuationBlock last m) b
+pub block-put : (at last count fill : ℕ) (m b : List Bool) → length m ≡ count → fill ≡ cond (ltb count 264) 1 0
+    → count ≤ 264 → at + 272 ≤ length b
+    → over (at + 4) (roomBits 264 m) (over at (pack (continuationParts last fill)) b)
+    ≡ over at (continuationBlock last m) b
 block-put at last count fill m b e q h l =
     let p = continuationParts last fill in
     let lp : length (pack p) ≡ 4 = length-pack p in
     let lr : length (roomBits 264 m) ≡ 268 = length-roomBits 264 m (omega arith) in
     ap (λ (x : ℕ). over (at + x) (roomBits 264 m) (over at (pack p) b)) (sym lp)
     ∙ over-over at (pack p) (roomBits 264 m) b (omega arith)
-    ∙ ap (λ (x : ℕ). over at (pack (continuationParts last x) ++ roomBits 264 m) b) (q ∙ ap (λ (x : ℕ). cond (ltb x 264) 1 0) (sym e))
+    ∙ ap (λ (x : ℕ). over at (pack (continuationParts last x) ++ roomBits 264 m) b)
+    (q ∙ ap (λ (x : ℕ). cond (ltb x 264) 1 0) (sym e))
 
 -- ---- the continuation blocks, one after the other
 
@@ -77,18 +85,22 @@ pub length-blocks : (k : ℕ) (r : List Bool) → length (continuationBlocks k r
 length-blocks zero r = refl
 length-blocks (suc k) r =
     let b = continuationBlock (lastWhen k) (take 264 r) in
-    length-append b (continuationBlocks k (drop 264 r)) ∙ omega (arith, length-block (lastWhen k) (take 264 r) (take-le 264 r), length-blocks k (drop 264 r))
+    length-append b (continuationBlocks k (drop 264 r))
+    ∙ omega (arith, length-block (lastWhen k) (take 264 r) (take-le 264 r), length-blocks k (drop 264 r))
 
 -- the first k of a list that has fewer are all of it, and none is left
-least-when : (t : Bool) (k : ℕ) (l : List Bool) → leb k (length l) ≡ t → (take (min (length l) k) l ≡ take k l) × (drop (min (length l) k) l ≡ drop k l)
+least-when : (t : Bool) (k : ℕ) (l : List Bool) → leb k (length l) ≡ t
+    → (take (min (length l) k) l ≡ take k l) × (drop (min (length l) k) l ≡ drop k l)
 least-when true k l e =
     let h = leb-true k (length l) e in
     let m : min (length l) k ≡ k = omega arith in
     (rw m refl, rw m refl)
 least-when false k l e =
     let h = leb-false k (length l) e in
-    let m : min (length l) k ≡ length l = omega arith in
-    (rw m (take-length l ∙ sym (take-all k l (omega arith))), rw m (drop-length l ∙ sym (drop-of-length-le l {i = k} (omega arith))))
+    let m : min (length l) k ≡ length l = omega arith in (
+      rw m (take-length l ∙ sym (take-all k l (omega arith))),
+      rw m (drop-length l ∙ sym (drop-of-length-le l {i = k} (omega arith))),
+    )
 
 least : (k : ℕ) (l : List Bool) → (take (min (length l) k) l ≡ take k l) × (drop (min (length l) k) l ≡ drop k l)
 least k l = least-when (leb k (length l)) k l refl
@@ -97,7 +109,8 @@ last-is : (k left : ℕ) → left ≡ suc k → cond (eqb left 1) 1 0 ≡ lastWh
 last-is zero left e = rw e refl
 last-is (suc k) left e = rw (ne-eqb left 1 (omega arith)) refl
 
-module _ (b : List Bool) (n from count left k last at : ℕ) (e : left ≡ suc k) (q : count ≡ min (n - from) 264) (w : last ≡ cond (eqb left 1) 1 0)
+module _ (b : List Bool) (n from count left k last at : ℕ) (e : left ≡ suc k) (q : count ≡ min (n - from) 264)
+    (w : last ≡ cond (eqb left 1) 1 0)
     (f : from ≤ n) (l : n ≤ length b) where
   abbrev rest : List Bool
   rest = drop from (take n b)
@@ -111,8 +124,10 @@ module _ (b : List Bool) (n from count left k last at : ℕ) (e : left ≡ suc k
   rest-rest : drop 264 rest ≡ drop (from + count) (take n b)
   rest-rest = sym (least 264 rest .1) ∙ rw (rest-length, ← q) (drop-drop count from (take n b))
 
-  pub blocks-turn : (old new : List Bool) → at + 272 * left ≤ length old → new ≡ over at (continuationBlock last (take count (drop from b))) old
-      → over (at + 272) (continuationBlocks k (drop (from + count) (take n b))) new ≡ over at (continuationBlocks left rest) old
+  pub blocks-turn : (old new : List Bool) → at + 272 * left ≤ length old
+      → new ≡ over at (continuationBlock last (take count (drop from b))) old
+      → over (at + 272) (continuationBlocks k (drop (from + count) (take n b))) new
+      ≡ over at (continuationBlocks left rest) old
   blocks-turn old new h p =
       let m = take count (drop from b) in
       let x = continuationBlock last m in
@@ -128,37 +143,30 @@ flag-le left e = rw e (told-le (eqb left 1))
 
 -- ---- SCH/H
 
-module _ (f count countdown inside fill to from : ℕ) (g : Fields) (m : List Bool) (p : to ≡ addressWidth (g .destination .kind)) (q : from ≡ addressWidth (g .source .kind))
-    (k : HeaderFits f count countdown g inside) where
-  abbrev first : ℕ
-  first = 12 + 4 * f + 2 + 2 + to + 2 + from + 24 + 5 + g .width
+-- an indication of 0 or 1 fits its element
+pub fill-fits : (f count countdown fill : ℕ) (g : Fields) → fill ≤ 1 → AllFit (headerParts 0 f count countdown g)
+    → AllFit (headerParts fill f count countdown g)
+fill-fits f count countdown fill g h (reserved, (none, others)) = (reserved, (omega arith, others))
 
-  -- the elements, with the address widths as they were worked out
-  abbrev parts : List Part
-  parts =
-      partsWith (10 ∷ 1 ∷ 1 ∷ 4 * f ∷ 2 ∷ 2 ∷ to ∷ 2 ∷ from ∷ 24 ∷ 5 ∷ g .width ∷ [])
-      (0 ∷ fill ∷ f ∷ count ∷ countdown ∷ g .destination .kind ∷ g .destination .ssi ∷ g .source .kind ∷ g .source .ssi ∷ g .mni ∷ g .message ∷ g .elements ∷ [])
+module _ (f count countdown inside : ℕ) (g : Fields) (k : HeaderFits f count countdown g inside) where
+  -- no element is wider than one `put` takes
+  pub narrow-parts : AllNarrow (headerLayout (shapeFor f g))
+  narrow-parts =
+      let f = k .flag in
+      let w = k .narrow in
+      omega (arith, addressWidth-le (g .destination .kind), addressWidth-le (g .source .kind))
 
-  pub header-first : first + inside ≤ 124
-  header-first = rw (p, q) (k .room)
-
-  pub header-parts : fill ≤ 1 → AllFit parts
-  header-parts h = rw (p, q) (k .parts .0, (omega arith, k .parts .1 .1))
-
-  pub header-total : total parts ≡ first
-  header-total = omega arith
-
-  pub header-put : (b : List Bool) → length m ≡ inside → fill ≡ cond (ltb inside (124 - first)) 1 0 → 192 ≤ length b
-      → over (64 + first) (roomBits (124 - first) m) (over 64 (pack parts) b) ≡ over 64 (headerBlock f count countdown g m) b
-  header-put b e z l =
-      let lp : length (pack parts) ≡ first = length-pack parts ∙ header-total in
-      let h = header-first in
+  pub header-put : (fill : ℕ) (m b : List Bool) → let first = sduAt (shapeFor f g) in
+      let parts = headerParts fill f count countdown g in
+      length m ≡ inside → fill ≡ cond (ltb inside (124 - first)) 1 0 → 192 ≤ length b
+      → over (64 + first) (roomBits (124 - first) m) (over 64 (pack parts) b)
+      ≡ over 64 (headerBlock f count countdown g m) b
+  header-put fill m b e z l =
+      let first = sduAt (shapeFor f g) in
+      let parts = headerParts fill f count countdown g in
+      let lp : length (pack parts) ≡ first = length-pack parts ∙ omega arith in
+      let h = k .room in
       let lr : length (roomBits (124 - first) m) ≡ 124 - first + 4 = length-roomBits (124 - first) m (omega arith) in
       ap (λ (x : ℕ). over (64 + x) (roomBits (124 - first) m) (over 64 (pack parts) b)) (sym lp)
       ∙ over-over 64 (pack parts) (roomBits (124 - first) m) b (omega arith)
-      ∙ rw (z, ← e, p, q) refl
-
--- no element is wider than one `put` takes
-pub narrow-parts : {f count countdown inside to from : ℕ} {g : Fields} → HeaderFits f count countdown g inside → to ≤ 24 → from ≤ 24
-    → AllNarrow (10 ∷ 1 ∷ 1 ∷ 4 * f ∷ 2 ∷ 2 ∷ to ∷ 2 ∷ from ∷ 24 ∷ 5 ∷ g .width ∷ [])
-narrow-parts k a b = let f = k .flag in let w = k .narrow in omega arith
+      ∙ rw (z, ← e) refl

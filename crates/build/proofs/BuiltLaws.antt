@@ -15,7 +15,8 @@ use Rattle.blocks.specs.Sync.{syncParts}
 use Rattle.blocks.specs.Header.{sduAt}
 use Rattle.blocks.specs.Slots.{inHeader}
 use Rattle.build.specs.Plan.{headerBits, fragmentedFor, blocksFor}
-use Rattle.build.specs.Build.{shapeFor, roomBits, headerParts, headerBlock, continuationBlocks, builtBits, builtBytes, schS, schH}
+use Rattle.build.specs.Build.{shapeFor, roomBits, headerParts, headerBlock, continuationBlocks, builtBits}
+use Rattle.build.specs.Build.{builtBytes, schS, schH}
 use Rattle.blocks.specs.declared.sync.Sync.{Sync}
 use Rattle.blocks.specs.declared.header.Fields.{Fields}
 use Rattle.build.proofs.BuildLaws.{length-roomBits, length-blocks}
@@ -24,13 +25,15 @@ use Rattle.build.proofs.RangeLaws.{InRange, header-fits, inside-le}
 pub length-sync : (y : Sync) → length (pack (syncParts y)) ≡ 64
 length-sync y = length-pack (syncParts y)
 
-pub length-header : (f count countdown : ℕ) (g : Fields) (m : List Bool) → sduAt (shapeFor f g) + length m ≤ 124 → length (headerBlock f count countdown g m) ≡ 128
+pub length-header : (f count countdown : ℕ) (g : Fields) (m : List Bool) → sduAt (shapeFor f g) + length m ≤ 124
+    → length (headerBlock f count countdown g m) ≡ 128
 length-header f count countdown g m h =
     let room = 124 - sduAt (shapeFor f g) in
     let p = headerParts (fillTold room m) f count countdown g in
     length-append (pack p) (roomBits room m) ∙ omega (arith, length-pack p, length-roomBits room m (omega arith))
 
-module _ {y : Sync} {countdown : ℕ} {g : Fields} (m : List Bool) {bytes lent : ℕ} (k : InRange y countdown g (length m) bytes lent) where
+module _ {y : Sync} {countdown : ℕ} {g : Fields} (m : List Bool) {bytes lent : ℕ}
+    (k : InRange y countdown g (length m) bytes lent) where
   abbrev sync : List Bool
   sync = pack (syncParts y)
 
@@ -47,14 +50,18 @@ module _ {y : Sync} {countdown : ℕ} {g : Fields} (m : List Bool) {bytes lent :
   inside-length = let l = inside-le k in rw (length-take i m) (omega arith)
 
   pub header-length : length header ≡ 128
-  header-length = length-header (fragmentedFor g (length m)) (blocksFor g (length m)) countdown g (take i m) (rw inside-length (header-fits k .room))
+  header-length =
+      length-header (fragmentedFor g (length m)) (blocksFor g (length m)) countdown g (take i m)
+      (rw inside-length (header-fits k .room))
 
   pub front-length : length (sync ++ header) ≡ 192
   front-length = length-append sync header ∙ omega (arith, length-sync y, header-length)
 
   pub built-length : length (builtBits y countdown g m) ≡ 8 * (24 + 34 * blocksFor g (length m))
   unfolding builtBits
-  built-length = length-append (sync ++ header) blocks ∙ omega (arith, front-length, length-blocks (blocksFor g (length m)) (drop i m))
+  built-length =
+      length-append (sync ++ header) blocks
+      ∙ omega (arith, front-length, length-blocks (blocksFor g (length m)) (drop i m))
 
   -- ---- an output that starts with the built bytes
 
@@ -66,17 +73,21 @@ module _ {y : Sync} {countdown : ℕ} {g : Fields} (m : List Bool) {bytes lent :
     unfolding builtBits
     out-bits =
         bitsOf-append (builtBytes y countdown g m) rest
-        ∙ ap (λ (x : List Bool). x ++ bitsOf rest) (bitsOf-bytesN (24 + 34 * blocksFor g (length m)) (builtBits y countdown g m) built-length)
+        ∙ ap (λ (x : List Bool). x ++ bitsOf rest)
+        (bitsOf-bytesN (24 + 34 * blocksFor g (length m)) (builtBits y countdown g m) built-length)
         ∙ append-assoc (sync ++ header) blocks (bitsOf rest)
         ∙ append-assoc sync header (blocks ++ bitsOf rest)
 
     pub sync-bits : bitsOf (schS out) ≡ sync
-    sync-bits = bitsOf-take 8 out ∙ ap (take 64) out-bits ∙ take-at sync (header ++ (blocks ++ bitsOf rest)) 64 (length-sync y)
+    sync-bits =
+        bitsOf-take 8 out ∙ ap (take 64) out-bits ∙ take-at sync (header ++ (blocks ++ bitsOf rest)) 64 (length-sync y)
 
     pub header-bits : bitsOf (schH out) ≡ header
     header-bits =
         bitsOf-take 16 (drop 8 out)
-        ∙ ap (take 128) (bitsOf-drop 8 out ∙ ap (drop 64) out-bits ∙ drop-at sync (header ++ (blocks ++ bitsOf rest)) 64 (length-sync y))
+        ∙ ap (take 128)
+        (bitsOf-drop 8 out ∙ ap (drop 64) out-bits
+        ∙ drop-at sync (header ++ (blocks ++ bitsOf rest)) 64 (length-sync y))
         ∙ take-at header (blocks ++ bitsOf rest) 128 header-length
 
     pub blocks-bits : bitsOf (drop 24 out) ≡ blocks ++ bitsOf rest

@@ -8,8 +8,10 @@ use native.Mathlib.Omega.{arith}
 use lib.Dec.{leb}
 use borrow.Author.Tests.{le-leb, lt-leb, leb-true, leb-false}
 use Rattle.blocks.specs.Widths.{entryOf, runFits}
-use Rattle.build.specs.Plan.{numberRules, addressRules, cutRules, headerBits, buildFault, noPlan, planAs, planOf, plannedOf}
-use Rattle.blocks.specs.Faults.{unless, firstOf}
+use Rattle.build.specs.Plan.{numberRules, addressRules, elementRules, headerRules, lengthRules, headerBits}
+use Rattle.build.specs.Plan.{buildFault}
+use Rattle.build.specs.Plan.{noPlan, planAs, planOf, plannedOf}
+use Rattle.blocks.specs.Faults.{firstOf}
 use Rattle.blocks.specs.declared.sync.Sync.{Sync}
 use Rattle.blocks.specs.declared.header.Fields.{Fields}
 use Rattle.blocks.proofs.FaultLaws.{chain-none, chain-given}
@@ -51,7 +53,9 @@ module _ (to from entry h n lent : ℕ) where
 
       pub whole : 24 ≤ lent → record { fault = 0; fragmented = 0; inside = n; blocks = 0 } ≡ plan
       unfolding planOf
-      whole l = rw (le-leb to 2 a, le-leb from 2 b, le-leb entry 254 c, f, sub-self n, le-leb 24 lent l) (rw (f, sub-self n) refl)
+      whole l =
+          rw (le-leb to 2 a, le-leb from 2 b, le-leb entry 254 c, f, sub-self n, le-leb 24 lent l)
+          (rw (f, sub-self n) refl)
 
     module _ (f : fitsHeader h n ≡ false) where
       pub too-long : 120 < h → noPlan 9 ≡ plan
@@ -67,18 +71,37 @@ module _ (to from entry h n lent : ℕ) where
 
         pub too-many : 3960 < rest → noPlan 14 ≡ plan
         unfolding planOf
-        too-many r = rw (le-leb to 2 a, le-leb from 2 b, le-leb entry 254 c, f, le-leb h 120 l, lt-leb blocks 15 (omega arith)) refl
+        too-many r =
+            rw (le-leb to 2 a, le-leb from 2 b, le-leb entry 254 c, f, le-leb h 120 l, lt-leb blocks 15 (omega arith))
+            refl
 
         module _ (r : rest ≤ 3960) where
           pub cut-short : lent < 24 + 34 * blocks → noPlan 1 ≡ plan
           unfolding planOf
           cut-short t =
-              rw (le-leb to 2 a, le-leb from 2 b, le-leb entry 254 c, f, le-leb h 120 l, le-leb blocks 15 (omega arith), lt-leb (24 + 34 * blocks) lent t) refl
+              rw (
+                le-leb to 2 a,
+                le-leb from 2 b,
+                le-leb entry 254 c,
+                f,
+                le-leb h 120 l,
+                le-leb blocks 15 (omega arith),
+                lt-leb (24 + 34 * blocks) lent t,
+              ) refl
 
-          pub cut : 24 + 34 * blocks ≤ lent → record { fault = 0; fragmented = 1; inside = 120 - h; blocks = blocks } ≡ plan
+          pub cut : 24 + 34 * blocks ≤ lent
+              → record { fault = 0; fragmented = 1; inside = 120 - h; blocks = blocks } ≡ plan
           unfolding planOf
           cut t =
-              rw (le-leb to 2 a, le-leb from 2 b, le-leb entry 254 c, f, le-leb h 120 l, le-leb blocks 15 (omega arith), le-leb (24 + 34 * blocks) lent t) (rw f refl)
+              rw (
+                le-leb to 2 a,
+                le-leb from 2 b,
+                le-leb entry 254 c,
+                f,
+                le-leb h 120 l,
+                le-leb blocks 15 (omega arith),
+                le-leb (24 + 34 * blocks) lent t,
+              ) (rw f refl)
 
       -- a message that does not fit is longer than what the header takes of it
       pub longer : 120 - h ≤ n
@@ -104,26 +127,32 @@ module _ (y : Sync) (countdown : ℕ) (g : Fields) (n bytes lent : ℕ) where
   from-rules = addressRules (g .source .kind) (g .source .ssi)
 
   abbrev cuts : List ℕ
-  cuts = cutRules (g .destination .kind) (g .source .kind) (entryOf (g .message) .width) (headerBits g) n lent
+  cuts =
+      headerRules (g .destination .kind) (g .source .kind) (entryOf (g .message) .width) (headerBits g) n
+      ++ lengthRules (headerBits g) n lent
 
   abbrev from-run : List ℕ
-  from-run = unless (runFits (g .message) (g .width) (g .elements)) 13 ∷ unless (leb n (8 * bytes)) 13 ∷ cuts
+  from-run = elementRules (g .message) (g .width) (g .elements) n bytes ++ cuts
 
   pub by-numbers : {f : ℕ} → f ≡ firstOf numbers → (f ≡ 0 → ⊥) → noPlan f ≡ plannedOf y countdown g n bytes lent
   unfolding plannedOf buildFault
   by-numbers q r = given-by numbers (to-rules ++ (from-rules ++ from-run)) (headerBits g) n q r
 
   module _ (a : firstOf numbers ≡ 0) where
-    after-numbers : planAs (firstOf (to-rules ++ (from-rules ++ from-run))) (headerBits g) n ≡ plannedOf y countdown g n bytes lent
+    after-numbers : planAs (firstOf (to-rules ++ (from-rules ++ from-run))) (headerBits g) n
+        ≡ plannedOf y countdown g n bytes lent
     unfolding plannedOf buildFault
-    after-numbers = ap (λ (x : ℕ). planAs x (headerBits g) n) (sym (chain-none numbers (to-rules ++ (from-rules ++ from-run)) a))
+    after-numbers =
+        ap (λ (x : ℕ). planAs x (headerBits g) n) (sym (chain-none numbers (to-rules ++ (from-rules ++ from-run)) a))
 
     pub by-to : {f : ℕ} → f ≡ firstOf to-rules → (f ≡ 0 → ⊥) → noPlan f ≡ plannedOf y countdown g n bytes lent
     by-to q r = given-by to-rules (from-rules ++ from-run) (headerBits g) n q r ∙ after-numbers
 
     module _ (b : firstOf to-rules ≡ 0) where
       after-to : planAs (firstOf (from-rules ++ from-run)) (headerBits g) n ≡ plannedOf y countdown g n bytes lent
-      after-to = ap (λ (x : ℕ). planAs x (headerBits g) n) (sym (chain-none to-rules (from-rules ++ from-run) b)) ∙ after-numbers
+      after-to =
+          ap (λ (x : ℕ). planAs x (headerBits g) n) (sym (chain-none to-rules (from-rules ++ from-run) b))
+          ∙ after-numbers
 
       pub by-from : {f : ℕ} → f ≡ firstOf from-rules → (f ≡ 0 → ⊥) → noPlan f ≡ plannedOf y countdown g n bytes lent
       by-from q r = given-by from-rules from-run (headerBits g) n q r ∙ after-to
@@ -132,13 +161,16 @@ module _ (y : Sync) (countdown : ℕ) (g : Fields) (n bytes lent : ℕ) where
         after-from : planAs (firstOf from-run) (headerBits g) n ≡ plannedOf y countdown g n bytes lent
         after-from = ap (λ (x : ℕ). planAs x (headerBits g) n) (sym (chain-none from-rules from-run c)) ∙ after-to
 
-        pub by-run : runFits (g .message) (g .width) (g .elements) ≡ false → noPlan 13 ≡ plannedOf y countdown g n bytes lent
+        pub by-run : runFits (g .message) (g .width) (g .elements) ≡ false
+            → noPlan 13 ≡ plannedOf y countdown g n bytes lent
         by-run e = rw e at after-from
 
-        pub by-lent : runFits (g .message) (g .width) (g .elements) ≡ true → leb n (8 * bytes) ≡ false → noPlan 13 ≡ plannedOf y countdown g n bytes lent
+        pub by-lent : runFits (g .message) (g .width) (g .elements) ≡ true → leb n (8 * bytes) ≡ false
+            → noPlan 13 ≡ plannedOf y countdown g n bytes lent
         by-lent e l = rw (e, l) at after-from
 
         pub by-cut : runFits (g .message) (g .width) (g .elements) ≡ true → leb n (8 * bytes) ≡ true
-            → planOf (g .destination .kind) (g .source .kind) (entryOf (g .message) .width) (headerBits g) n lent ≡ plannedOf y countdown g n bytes lent
+            → planOf (g .destination .kind) (g .source .kind) (entryOf (g .message) .width) (headerBits g) n lent
+            ≡ plannedOf y countdown g n bytes lent
         unfolding planOf
         by-cut e l = rw (e, l) at after-from

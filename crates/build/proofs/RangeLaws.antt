@@ -1,6 +1,7 @@
 -- What a build's rules show of its numbers, where none is broken. Assumes nothing.
-use mathlib.Core.Path.{_≡_, refl}
+use mathlib.Core.Path.{_≡_, refl, _∙_}
 use mathlib.Core.Bool.{Bool, true, false, cond}
+use mathlib.Core.List.{List, _++_}
 use Prim.Native.Nat.{ℕ, _+_, _-_, _*_, _/_, _^_, _≤_, _<_}
 use native.Mathlib.Nat.{sub-self}
 use native.Mathlib.Omega.{arith}
@@ -12,89 +13,75 @@ use Rattle.blocks.specs.Widths.{entryOf, widthOf, runHolds, runFits}
 use Rattle.blocks.specs.Sync.{syncParts}
 use Rattle.blocks.specs.Header.{addressWidth, sduAt}
 use Rattle.blocks.specs.Slots.{fitsHeader, inHeader}
-use Rattle.build.specs.Plan.{headerBits, fragmentedFor, blocksFor, buildChecks, buildFault}
+use Rattle.build.specs.Plan.{headerBits, fragmentedFor, blocksFor, numberRules, addressRules, elementRules}
+use Rattle.build.specs.Plan.{headerRules}
+use Rattle.build.specs.Plan.{lengthRules, buildFault}
 use Rattle.build.specs.Build.{shapeFor, HeaderFits}
 use Rattle.blocks.specs.declared.sync.Sync.{Sync}
 use Rattle.blocks.specs.declared.header.Fields.{Fields}
-use Rattle.blocks.proofs.FaultLaws.{all-zero, holds}
+use Rattle.blocks.proofs.FaultLaws.{chain-none, chain-split}
 use Rattle.blocks.proofs.WidthLaws.{width-listed}
+use Rattle.build.proofs.RuleLaws.{NumbersHold, numbers-hold, numbers-pass, AddressHolds, address-holds}
+use Rattle.build.proofs.RuleLaws.{address-pass}
+use Rattle.build.proofs.RuleLaws.{ElementsHold, elements-hold, elements-pass, HeaderHolds, header-holds}
+use Rattle.build.proofs.RuleLaws.{header-pass}
+use Rattle.build.proofs.RuleLaws.{LengthHolds, length-holds, length-pass}
 
+-- what all of them say
 pub record InRange (y : Sync) (countdown : ℕ) (g : Fields) (n bytes lent : ℕ) : Type 0 where
-  pub lowest : 10 ≤ y .system
-  pub highest : y .system ≤ 15
-  pub first-frame : 1 ≤ y .frame
-  pub last-frame : y .frame ≤ 18
-  pub usage : y .usage ≤ 3
-  pub slot : y .slot ≤ 3
-  pub countdown-small : countdown ≤ 3
-  pub mni : g .mni < 2 ^ 24
-  pub message : g .message ≤ 31
-  pub to-fits : g .destination .ssi < 2 ^ addressWidth (g .destination .kind)
-  pub from-fits : g .source .ssi < 2 ^ addressWidth (g .source .kind)
-  pub run : runFits (g .message) (g .width) (g .elements) ≡ true
-  pub lent-bits : n ≤ 8 * bytes
-  pub to : g .destination .kind ≤ 2
-  pub from : g .source .kind ≤ 2
-  pub listed : entryOf (g .message) .width ≤ 254
-  pub header : cond (fitsHeader (headerBits g) n) true (leb (headerBits g) 120) ≡ true
-  pub count : blocksFor g n ≤ 15
-  pub room : 24 + 34 * blocksFor g n ≤ lent
+  pub numbers : NumbersHold (y .system) (y .frame) (y .usage) (y .slot) countdown (g .mni) (g .message)
+  pub destination : AddressHolds (g .destination .kind) (g .destination .ssi)
+  pub source : AddressHolds (g .source .kind) (g .source .ssi)
+  pub elements : ElementsHold (g .message) (g .width) (g .elements) n bytes
+  pub header : HeaderHolds (g .destination .kind) (g .source .kind) (entryOf (g .message) .width) (headerBits g) n
+  pub blocks : LengthHolds (headerBits g) n lent
 
-pub in-range : (y : Sync) (countdown : ℕ) (g : Fields) (n bytes lent : ℕ) → buildFault y countdown g n bytes lent ≡ 0 → InRange y countdown g n bytes lent
-unfolding buildFault
-in-range y countdown g n bytes lent e =
-    let z = all-zero (buildChecks y countdown g n bytes lent) e in
-    record {
-      lowest = leb-true 10 (y .system) (holds (leb 10 (y .system)) 2 (z .0));
-      highest = leb-true (y .system) 15 (holds (leb (y .system) 15) 2 (z .1 .0));
-      first-frame = leb-true 1 (y .frame) (holds (leb 1 (y .frame)) 6 (z .1 .1 .0));
-      last-frame = leb-true (y .frame) 18 (holds (leb (y .frame) 18) 6 (z .1 .1 .1 .0));
-      usage = leb-true (y .usage) 3 (holds (leb (y .usage) 3) 12 (z .1 .1 .1 .1 .0));
-      slot = leb-true (y .slot) 3 (holds (leb (y .slot) 3) 12 (z .1 .1 .1 .1 .1 .0));
-      countdown-small = leb-true countdown 3 (holds (leb countdown 3) 12 (z .1 .1 .1 .1 .1 .1 .0));
-      mni = ltb-true (g .mni) (2 ^ 24) (holds (ltb (g .mni) (2 ^ 24)) 12 (z .1 .1 .1 .1 .1 .1 .1 .0));
-      message = leb-true (g .message) 31 (holds (leb (g .message) 31) 12 (z .1 .1 .1 .1 .1 .1 .1 .1 .0));
-      to-fits = ltb-true (g .destination .ssi) (2 ^ addressWidth (g .destination .kind)) (holds (ltb (g .destination .ssi) (2 ^ addressWidth (g .destination .kind))) 12 (z .1 .1 .1 .1 .1 .1 .1 .1 .1 .1 .0));
-      from-fits = ltb-true (g .source .ssi) (2 ^ addressWidth (g .source .kind)) (holds (ltb (g .source .ssi) (2 ^ addressWidth (g .source .kind))) 12 (z .1 .1 .1 .1 .1 .1 .1 .1 .1 .1 .1 .1 .0));
-      run = holds (runFits (g .message) (g .width) (g .elements)) 12 (z .1 .1 .1 .1 .1 .1 .1 .1 .1 .1 .1 .1 .1 .0);
-      lent-bits = leb-true n (8 * bytes) (holds (leb n (8 * bytes)) 12 (z .1 .1 .1 .1 .1 .1 .1 .1 .1 .1 .1 .1 .1 .1 .0));
-      to = leb-true (g .destination .kind) 2 (holds (leb (g .destination .kind) 2) 7 (z .1 .1 .1 .1 .1 .1 .1 .1 .1 .1 .1 .1 .1 .1 .1 .0));
-      from = leb-true (g .source .kind) 2 (holds (leb (g .source .kind) 2) 7 (z .1 .1 .1 .1 .1 .1 .1 .1 .1 .1 .1 .1 .1 .1 .1 .1 .0));
-      listed = leb-true (entryOf (g .message) .width) 254 (holds (leb (entryOf (g .message) .width) 254) 8 (z .1 .1 .1 .1 .1 .1 .1 .1 .1 .1 .1 .1 .1 .1 .1 .1 .1 .0));
-      header = holds (cond (fitsHeader (headerBits g) n) true (leb (headerBits g) 120)) 8 (z .1 .1 .1 .1 .1 .1 .1 .1 .1 .1 .1 .1 .1 .1 .1 .1 .1 .1 .0);
-      count = leb-true (blocksFor g n) 15 (holds (leb (blocksFor g n) 15) 13 (z .1 .1 .1 .1 .1 .1 .1 .1 .1 .1 .1 .1 .1 .1 .1 .1 .1 .1 .1 .0));
-      room = leb-true (24 + 34 * blocksFor g n) lent (holds (leb (24 + 34 * blocksFor g n) lent) 0 (z .1 .1 .1 .1 .1 .1 .1 .1 .1 .1 .1 .1 .1 .1 .1 .1 .1 .1 .1 .1 .0));
-    }
+module _ (y : Sync) (countdown : ℕ) (g : Fields) (n bytes lent : ℕ) where
+  abbrev numbers : List ℕ
+  numbers = numberRules (y .system) (y .frame) (y .usage) (y .slot) countdown (g .mni) (g .message)
 
--- and the other way round: nothing else is refused
-pub no-fault : {y : Sync} {countdown : ℕ} {g : Fields} {n bytes lent : ℕ} → InRange y countdown g n bytes lent → buildFault y countdown g n bytes lent ≡ 0
-unfolding buildFault
-no-fault {y} {countdown} {g} {n} {bytes} {lent} k =
-    let t = k .to in
-    let f = k .from in
-    rw (
-      le-leb 10 (y .system) (k .lowest),
-      le-leb (y .system) 15 (k .highest),
-      le-leb 1 (y .frame) (k .first-frame),
-      le-leb (y .frame) 18 (k .last-frame),
-      le-leb (y .usage) 3 (k .usage),
-      le-leb (y .slot) 3 (k .slot),
-      le-leb countdown 3 (k .countdown-small),
-      lt-ltb (g .mni) (2 ^ 24) (k .mni),
-      le-leb (g .message) 31 (k .message),
-      le-leb (g .destination .kind) 3 (omega arith),
-      lt-ltb (g .destination .ssi) (2 ^ addressWidth (g .destination .kind)) (k .to-fits),
-      le-leb (g .source .kind) 3 (omega arith),
-      lt-ltb (g .source .ssi) (2 ^ addressWidth (g .source .kind)) (k .from-fits),
-      k .run,
-      le-leb n (8 * bytes) (k .lent-bits),
-      le-leb (g .destination .kind) 2 (k .to),
-      le-leb (g .source .kind) 2 (k .from),
-      le-leb (entryOf (g .message) .width) 254 (k .listed),
-      k .header,
-      le-leb (blocksFor g n) 15 (k .count),
-      le-leb (24 + 34 * blocksFor g n) lent (k .room),
-    ) refl
+  abbrev to : List ℕ
+  to = addressRules (g .destination .kind) (g .destination .ssi)
+
+  abbrev from : List ℕ
+  from = addressRules (g .source .kind) (g .source .ssi)
+
+  abbrev elements : List ℕ
+  elements = elementRules (g .message) (g .width) (g .elements) n bytes
+
+  abbrev header : List ℕ
+  header = headerRules (g .destination .kind) (g .source .kind) (entryOf (g .message) .width) (headerBits g) n
+
+  abbrev blocks : List ℕ
+  blocks = lengthRules (headerBits g) n lent
+
+  pub in-range : buildFault y countdown g n bytes lent ≡ 0 → InRange y countdown g n bytes lent
+  unfolding buildFault
+  in-range e =
+      let (a, e) = chain-split numbers (to ++ (from ++ (elements ++ (header ++ blocks)))) e in
+      let (b, e) = chain-split to (from ++ (elements ++ (header ++ blocks))) e in
+      let (c, e) = chain-split from (elements ++ (header ++ blocks)) e in
+      let (d, e) = chain-split elements (header ++ blocks) e in
+      let (h, l) = chain-split header blocks e in
+      record {
+        numbers = numbers-hold _ _ _ _ _ _ _ a;
+        destination = address-holds _ _ b;
+        source = address-holds _ _ c;
+        elements = elements-hold _ _ _ _ _ d;
+        header = header-holds _ _ _ _ _ h;
+        blocks = length-holds _ _ _ l;
+      }
+
+  -- and the other way round: nothing else is refused
+  pub no-fault : InRange y countdown g n bytes lent → buildFault y countdown g n bytes lent ≡ 0
+  unfolding buildFault
+  no-fault k =
+      chain-none numbers (to ++ (from ++ (elements ++ (header ++ blocks)))) (numbers-pass _ _ _ _ _ _ _ (k .numbers))
+      ∙ chain-none to (from ++ (elements ++ (header ++ blocks))) (address-pass _ _ (k .destination))
+      ∙ chain-none from (elements ++ (header ++ blocks)) (address-pass _ _ (k .source))
+      ∙ chain-none elements (header ++ blocks) (elements-pass _ _ _ _ _ (k .elements))
+      ∙ chain-none header blocks (header-pass _ _ _ _ _ (k .header))
+      ∙ length-pass _ _ _ (k .blocks)
 
 -- ---- the run of elements
 
@@ -103,9 +90,11 @@ run-when s true b e = (refl, e)
 run-when s false b e = let z : _≡_ {A = ℕ} 0 1 = cc in absurd (omega arith)
 
 module _ {y : Sync} {countdown : ℕ} {g : Fields} {n bytes lent : ℕ} (k : InRange y countdown g n bytes lent) where
-  run-holds : (ltb (g .elements) (2 ^ g .width) ≡ true) × (eqb (widthOf (entryOf (g .message)) (bitsN (g .width) (g .elements))) (g .width) ≡ true)
+  run-holds : (ltb (g .elements) (2 ^ g .width) ≡ true)
+      × (eqb (widthOf (entryOf (g .message)) (bitsN (g .width) (g .elements))) (g .width) ≡ true)
   unfolding runFits
-  run-holds = run-when true _ _ (rw (le-leb (entryOf (g .message) .width) 254 (k .listed)) at (k .run))
+  run-holds =
+      run-when true _ _ (rw (le-leb (entryOf (g .message) .width) 254 (k .header .listed)) at (k .elements .run))
 
   pub elements-fit : g .elements < 2 ^ g .width
   elements-fit = ltb-true (g .elements) (2 ^ g .width) (run-holds .0)
@@ -115,20 +104,21 @@ module _ {y : Sync} {countdown : ℕ} {g : Fields} {n bytes lent : ℕ} (k : InR
   width-is = eqb-true (widthOf (entryOf (g .message)) (bitsN (g .width) (g .elements))) (g .width) (run-holds .1)
 
   pub width-narrow : g .width ≤ 45
-  width-narrow = rw width-is at (width-listed (g .message) (bitsN (g .width) (g .elements)) (k .listed))
+  width-narrow = rw width-is at (width-listed (g .message) (bitsN (g .width) (g .elements)) (k .header .listed))
 
   pub sync-fits : AllFit (syncParts y)
   sync-fits =
-      let a = k .highest in
-      let b = k .last-frame in
-      let c = k .usage in
-      let d = k .slot in
+      let a = k .numbers .highest in
+      let b = k .numbers .last-frame in
+      let c = k .numbers .usage in
+      let d = k .numbers .slot in
       omega arith
 
   -- ---- the header, fragmented or not
 
   header-when : (t : Bool) → fitsHeader (headerBits g) n ≡ t → cond t true (leb (headerBits g) 120) ≡ true
-      → (sduAt (shapeFor (cond t 0 1) g) + cond t n (120 - headerBits g) ≤ 124) × (blocksFor g n < 2 ^ (4 * cond t 0 1)) × (cond t 0 1 ≤ 1) × (cond t n (120 - headerBits g) ≤ n)
+      → (sduAt (shapeFor (cond t 0 1) g) + cond t n (120 - headerBits g) ≤ 124) × (blocksFor g n < 2 ^ (4 * cond t 0 1))
+      × (cond t 0 1 ≤ 1) × (cond t n (120 - headerBits g) ≤ n)
   header-when true f e =
       let l = leb-true (n + headerBits g) 124 f in
       let b : blocksFor g n ≡ 0 = rw (f, sub-self n) refl in
@@ -136,12 +126,12 @@ module _ {y : Sync} {countdown : ℕ} {g : Fields} {n bytes lent : ℕ} (k : InR
   header-when false f e =
       let l = leb-false (n + headerBits g) 124 f in
       let h = leb-true (headerBits g) 120 e in
-      let c = k .count in
+      let c = k .blocks .count in
       (omega arith, omega arith, omega arith, omega arith)
 
   pub header-fits : HeaderFits (fragmentedFor g n) (blocksFor g n) countdown g (inHeader (headerBits g) n)
   header-fits =
-      let w = header-when (fitsHeader (headerBits g) n) refl (k .header) in
+      let w = header-when (fitsHeader (headerBits g) n) refl (k .header .fits) in
       record {
         flag = w .2;
         parts = (
@@ -153,10 +143,16 @@ module _ {y : Sync} {countdown : ℕ} {g : Fields} {n bytes lent : ℕ} (k : InR
               (
                 w .1,
                 (
-                  omega (arith, k .countdown-small),
+                  omega (arith, k .numbers .countdown),
                   (
-                    omega (arith, k .to),
-                    (k .to-fits, (omega (arith, k .from), (k .from-fits, (k .mni, (omega (arith, k .message), (elements-fit, tt)))))),
+                    omega (arith, k .header .to),
+                    (
+                      k .destination .ssi,
+                      (
+                        omega (arith, k .header .from),
+                        (k .source .ssi, (k .numbers .mni, (omega (arith, k .numbers .message), (elements-fit, tt)))),
+                      ),
+                    ),
                   ),
                 ),
               ),
@@ -168,15 +164,15 @@ module _ {y : Sync} {countdown : ℕ} {g : Fields} {n bytes lent : ℕ} (k : InR
       }
 
   pub inside-le : inHeader (headerBits g) n ≤ n
-  inside-le = header-when (fitsHeader (headerBits g) n) refl (k .header) .3
+  inside-le = header-when (fitsHeader (headerBits g) n) refl (k .header .fits) .3
 
   -- a message that is built has at most so many bits
   n-when : (t : Bool) → fitsHeader (headerBits g) n ≡ t → cond t true (leb (headerBits g) 120) ≡ true → n ≤ 4080
   n-when true f e = let l = leb-true (n + headerBits g) 124 f in omega arith
   n-when false f e =
       let h = leb-true (headerBits g) 120 e in
-      let c : (n - (120 - headerBits g) + 263) / 264 ≤ 15 = rw f at (k .count) in
+      let c : (n - (120 - headerBits g) + 263) / 264 ≤ 15 = rw f at (k .blocks .count) in
       omega arith
 
   pub n-small : n ≤ 4080
-  n-small = n-when (fitsHeader (headerBits g) n) refl (k .header)
+  n-small = n-when (fitsHeader (headerBits g) n) refl (k .header .fits)

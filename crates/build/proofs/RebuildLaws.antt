@@ -5,26 +5,29 @@ use mathlib.Core.List.{List, [], _++_, append-assoc, append-nil}
 use Prim.Native.Nat.{ℕ, zero, suc, _+_, _-_, _*_, _^_, _≤_, _<_}
 use native.Mathlib.Nat.{sub-self}
 use native.Mathlib.Omega.{arith}
-use lib.Dec.{eqb, leb}
 use lib.ListN.{length, take, drop, replicate, length-append, length-take, length-drop, take-append-drop}
 use lib.Seq.{length-slice, take-length, take-all, take-take}
-use borrow.Author.Tests.{le-leb, lt-ltb, eq-eqb, leb-true, eqb-true}
+use borrow.Author.Tests.{le-leb, lt-ltb, eq-eqb}
 use Rattle.bits.specs.Bits.{num, bitsN, bitsOf, bytesN, field, AllBytes}
 use Rattle.bits.specs.Fill.{filled}
 use Rattle.bits.specs.Layout.{pack, partsIn, total, element}
 use Rattle.bits.proofs.Numbers.{num-take-lt, bitsN-is, bitsN-zero}
 use Rattle.bits.proofs.Packing.{pack-read}
-use Rattle.blocks.specs.Faults.{unless, AllZero}
+use Rattle.blocks.specs.Faults.{firstOf}
 use Rattle.blocks.specs.Widths.{entryOf, widthOf, runFits}
-use Rattle.blocks.specs.Sdu.{fillTold, isThere, bitsIn}
+use Rattle.blocks.specs.Sdu.{fillTold, bitsIn}
 use Rattle.blocks.specs.Sync.{syncLayout, syncParts, syncOf, syncChecks}
-use Rattle.blocks.specs.Header.{addressWidth, headerFault, headerOf, answered, readHeader, headerLayout, runAt, sduAt, fragmentedIn, toIn, fromIn, messageIn, widthIn, shapeOf, bodyOf, roomOf, messageOf, bodyChecks, fieldsOf}
+use Rattle.blocks.specs.Header.{addressWidth, toIn, fromIn, messageIn, runIn, widthIn, headerLayout, sduAt}
+use Rattle.blocks.specs.Header.{fragmentedIn, tailOf}
+use Rattle.blocks.specs.Header.{shapeOf, bodyOf, roomOf, messageOf, bodyChecks, headerFault, fieldsOf, headerOf}
+use Rattle.blocks.specs.Header.{answered, readHeader}
 use Rattle.build.specs.Build.{shapeFor, headerParts, headerBlock, builtBits, builtBytes}
 use Rattle.blocks.specs.declared.header.Fields.{Fields}
 use Rattle.blocks.specs.Slots.{fitsHeader}
 use Rattle.build.specs.Plan.{headerBits}
 use Rattle.blocks.specs.declared.header.Header.{Header}
-use Rattle.blocks.proofs.FaultLaws.{all-zero, zero-split, holds}
+use Rattle.blocks.proofs.FaultLaws.{chain-split}
+use Rattle.blocks.proofs.RuleLaws.{SyncHolds, sync-holds, BodyHolds, body-holds}
 use Rattle.build.proofs.RangeLaws.{InRange}
 use Rattle.bits.proofs.Bytes.{length-bitsOf, bitsOf-append, bytesN-bitsOf, bytes-append}
 use Rattle.blocks.proofs.RoomLaws.{refill}
@@ -33,8 +36,10 @@ use Rattle.blocks.proofs.WidthLaws.{width-alone, entry-le}
 -- ---- SCH/S
 
 -- the parts of a block whose fixed and reserved elements are zero
-pub sync-again : (b : List Bool) → length b ≡ 64 → element syncLayout 1 b ≡ 0 → element syncLayout 2 b ≡ 0 → element syncLayout 3 b ≡ 0
-    → element syncLayout 7 b ≡ 0 → element syncLayout 8 b ≡ 0 → element syncLayout 9 b ≡ 0 → pack (syncParts (syncOf b)) ≡ b
+pub sync-again : (b : List Bool) → length b ≡ 64 → element syncLayout 1 b ≡ 0 → element syncLayout 2 b ≡ 0
+    → element syncLayout 3 b ≡ 0
+    → element syncLayout 7 b ≡ 0 → element syncLayout 8 b ≡ 0 → element syncLayout 9 b ≡ 0
+    → pack (syncParts (syncOf b)) ≡ b
 unfolding syncOf
 sync-again b l e₁ e₂ e₃ e₇ e₈ e₉ =
     let same : partsIn 0 syncLayout b ≡ syncParts (syncOf b) = rw (e₁, e₂, e₃, e₇, e₈, e₉) refl in
@@ -42,12 +47,13 @@ sync-again b l e₁ e₂ e₃ e₇ e₈ e₉ =
 
 -- ---- SCH/H
 
-module _ (b : List Bool) (l : length b ≡ 128) (f₀ : fragmentedIn b ≡ 0) (z : AllZero (bodyChecks b)) (reserved : field 0 10 b ≡ 0) (pad : field 124 4 b ≡ 0) where
+module _ (b : List Bool) (l : length b ≡ 128) (f₀ : fragmentedIn b ≡ 0) (z : BodyHolds b) (reserved : field 0 10 b ≡ 0)
+    (pad : field 124 4 b ≡ 0) where
   abbrev g : Fields
   g = fieldsOf b
 
   abbrev first : ℕ
-  first = bodyOf b .first
+  first = bodyOf b .tail .first
 
   abbrev inside : List Bool
   inside = roomOf (bodyOf b) b
@@ -56,27 +62,27 @@ module _ (b : List Bool) (l : length b ≡ 128) (f₀ : fragmentedIn b ≡ 0) (z
   m = bitsIn (messageOf (bodyOf b) b)
 
   fits : first ≤ 124
-  fits = leb-true (first) 124 (holds (leb (first) 124) 8 (z .1 .1 .1 .1 .0))
+  fits = z .rules .tail .fits
 
-  there : isThere (messageOf (bodyOf b) b) ≡ true
-  there = holds (isThere (messageOf (bodyOf b) b)) 10 (z .1 .1 .1 .1 .1 .0)
-
-  room-is : length (inside) ≡ 124 - first
-  room-is = length-slice (first) 124 b (omega arith)
+  room-is : length inside ≡ 124 - first
+  room-is = length-slice first 124 b (omega arith)
 
   fill-le : bodyOf b .fill ≤ 1
   unfolding bodyOf
   fill-le = let s = num-take-lt 1 (drop 10 b) in omega arith
 
-  again : (inside ≡ filled (length (inside)) m) × (fillTold (length (inside)) m ≡ bodyOf b .fill) × (length m ≤ length (inside))
-  again = refill (bodyOf b .fill) (inside) fill-le there
+  again : (inside ≡ filled (length inside) m) × (fillTold (length inside) m ≡ bodyOf b .fill)
+      × (length m ≤ length inside)
+  again = refill (bodyOf b .fill) inside fill-le (z .there)
 
   pub message-fits : first + length m ≤ 124
   message-fits = let a = again .2 in let r = room-is in let f = fits in omega arith
 
   shape-is : shapeFor 0 g ≡ shapeOf b
   unfolding bodyOf toIn fromIn
-  shape-is = λ i. record { fragmented = sym f₀ i; to = toIn b; from = fromIn b; width = widthIn b }
+  shape-is =
+      let at = tailOf b in
+      λ i. record { fragmented = sym f₀ i; to = toIn at b; from = fromIn at b; width = widthIn at b }
 
   -- where the DM-SDU starts, with no slot count
   pub first-is : sduAt (shapeFor 0 g) ≡ first
@@ -97,40 +103,42 @@ module _ (b : List Bool) (l : length b ≡ 128) (f₀ : fragmentedIn b ≡ 0) (z
       let r = room-is in
       let f = fits in
       let w = headerLayout (shapeFor 0 g) in
-      let room : 124 - sduAt (shapeFor 0 g) ≡ length (inside) = rw first-is (sym r) in
+      let room : 124 - sduAt (shapeFor 0 g) ≡ length inside = rw first-is (sym r) in
       let tot : total (partsIn 0 w b) ≡ first = omega (arith, first-is) in
-      let front : pack (headerParts (bodyOf b .fill) 0 0 (bodyOf b .countdown) g) ≡ take (first) b =
+      let front : pack (headerParts (bodyOf b .fill) 0 0 (bodyOf b .countdown) g) ≡ take first b =
       ap pack parts-again ∙ pack-read 0 w b (omega arith) ∙ ap (λ (n : ℕ). take n b) tot in
       let zeros : replicate 4 false ≡ drop 124 b =
-      sym (bitsN-zero 4) ∙ ap (bitsN 4) (sym pad) ∙ bitsN-is 4 (field 124 4 b) (take 4 (drop 124 b)) (rw (length-take 4 (drop 124 b), length-drop 124 b) (omega arith)) refl
+      sym (bitsN-zero 4) ∙ ap (bitsN 4) (sym pad)
+      ∙ bitsN-is 4 (field 124 4 b) (take 4 (drop 124 b))
+      (rw (length-take 4 (drop 124 b), length-drop 124 b) (omega arith)) refl
       ∙ take-all 4 (drop 124 b) (rw (length-drop 124 b) (omega arith)) in
-      let whole : take (first) b ++ (inside ++ drop 124 b) ≡ b =
-      ap (λ (x : List Bool). x ++ (inside ++ drop 124 b)) (sym (take-take (first) 124 b f))
-      ∙ sym (append-assoc (take (first) (take 124 b)) (inside) (drop 124 b))
-      ∙ ap (λ (x : List Bool). x ++ drop 124 b) (take-append-drop (first) (take 124 b))
+      let whole : take first b ++ (inside ++ drop 124 b) ≡ b =
+      ap (λ (x : List Bool). x ++ (inside ++ drop 124 b)) (sym (take-take first 124 b f))
+      ∙ sym (append-assoc (take first (take 124 b)) inside (drop 124 b))
+      ∙ ap (λ (x : List Bool). x ++ drop 124 b) (take-append-drop first (take 124 b))
       ∙ take-append-drop 124 b in
       rw (room, a .1, ← a .0, zeros, front) whole
 
 -- what was read fits its elements
-pub record Small (b : List Bool) : Type 0 where
-  pub countdown : bodyOf b .countdown < 2 ^ 2
-  pub mni : bodyOf b .mni < 2 ^ 24
-  pub message : bodyOf b .message < 2 ^ 5
-  pub to : bodyOf b .destination .ssi < 2 ^ addressWidth (bodyOf b .destination .kind)
-  pub from : bodyOf b .source .ssi < 2 ^ addressWidth (bodyOf b .source .kind)
+pub record Small (countdown : ℕ) (g : Fields) : Type 0 where
+  pub falls : countdown < 2 ^ 2
+  pub mni : g .mni < 2 ^ 24
+  pub message : g .message < 2 ^ 5
+  pub to : g .destination .ssi < 2 ^ addressWidth (g .destination .kind)
+  pub from : g .source .ssi < 2 ^ addressWidth (g .source .kind)
 
-pub small : (b : List Bool) → Small b
+pub small : (b : List Bool) → Small (bodyOf b .countdown) (fieldsOf b)
 unfolding bodyOf toIn fromIn
 small b =
-    let f = fragmentedIn b in
-    let d = addressWidth (toIn b) in
-    let s = addressWidth (fromIn b) in
+    let at = tailOf b in
+    let d = addressWidth (toIn at b) in
+    let s = addressWidth (fromIn at b) in
     record {
-      countdown = num-take-lt 2 (drop (12 + 4 * f) b);
-      mni = num-take-lt 24 (drop (12 + 4 * f + 2 + 2 + d + 2 + s) b);
-      message = num-take-lt 5 (drop (12 + 4 * f + 2 + 2 + d + 2 + s + 24) b);
-      to = num-take-lt d (drop (12 + 4 * f + 2 + 2) b);
-      from = num-take-lt s (drop (12 + 4 * f + 2 + 2 + d + 2) b);
+      falls = num-take-lt 2 (drop (12 + 4 * fragmentedIn b) b);
+      mni = num-take-lt 24 (drop (at + 2 + d + 2 + s) b);
+      message = num-take-lt 5 (drop (at + 2 + d + 2 + s + 24) b);
+      to = num-take-lt d (drop (at + 2) b);
+      from = num-take-lt s (drop (at + 2 + d + 2) b);
     }
 
 -- ---- both, from what was read
@@ -139,7 +147,8 @@ answered-fault : (n : ℕ) (r : Header) → r .fault ≡ 0 → answered n r .fau
 answered-fault zero r e = e
 answered-fault (suc n) r e = refl
 
-module _ (s h : List ℕ) (good : readHeader s h .fault ≡ 0) (plain : readHeader s h .fragmented ≡ 0) (r₃ : element syncLayout 3 (bitsOf s) ≡ 0)
+module _ (s h : List ℕ) (good : readHeader s h .fault ≡ 0) (plain : readHeader s h .fragmented ≡ 0)
+    (r₃ : element syncLayout 3 (bitsOf s) ≡ 0)
     (r₈ : element syncLayout 8 (bitsOf s) ≡ 0) (r₀ : field 0 10 (bitsOf h) ≡ 0) where
   abbrev S : List Bool
   S = bitsOf s
@@ -155,34 +164,29 @@ module _ (s h : List ℕ) (good : readHeader s h .fault ≡ 0) (plain : readHead
   unfolding readHeader
   read-is = ap (λ (n : ℕ). answered n (headerOf (syncOf S) H)) none
 
-  zeros : AllZero (syncChecks s h) × AllZero (bodyChecks H)
-  zeros = zero-split (syncChecks s h) (bodyChecks H) (all-zero (syncChecks s h ++ bodyChecks H) none)
+  abbrev checks : (firstOf (syncChecks s h) ≡ 0) × (firstOf (bodyChecks H) ≡ 0)
+  checks = chain-split (syncChecks s h) (bodyChecks H) none
+
+  sync-rules : SyncHolds s h
+  sync-rules = sync-holds s h (checks .0)
+
+  body-rules : BodyHolds H
+  body-rules = body-holds H (checks .1)
 
   plain-is : fragmentedIn H ≡ 0
   unfolding bodyOf fragmentedIn
   plain-is = sym (ap (λ (r : Header). r .fragmented) read-is) ∙ plain
 
   pub length-s : length s ≡ 8
-  unfolding syncChecks
-  length-s = eqb-true (length s) 8 (holds (eqb (length s) 8) 0 (zeros .0 .0))
+  length-s = sync-rules .length-s
 
   pub length-h : length h ≡ 16
-  unfolding syncChecks
-  length-h = eqb-true (length h) 16 (holds (eqb (length h) 16) 0 (zeros .0 .1 .0))
-
-  is-zero : (v n : ℕ) → unless (eqb v 0) (suc n) ≡ 0 → v ≡ 0
-  is-zero v n e = eqb-true v 0 (holds (eqb v 0) n e)
+  length-h = sync-rules .length-h
 
   pub sync-same : pack (syncParts (syncOf S)) ≡ S
-  unfolding syncChecks
   sync-same =
-      let z = zeros .0 .1 .1 in
-      sync-again S (rw (length-bitsOf s, length-s) refl) (is-zero (element syncLayout 1 S) 3 (z .1 .1 .1 .0)) (is-zero (element syncLayout 2 S) 4 (z .1 .1 .1 .1 .0)) r₃
-      (is-zero (element syncLayout 7 S) 5 (z .1 .1 .1 .1 .1 .0)) r₈ (is-zero (element syncLayout 9 S) 1 (z .0))
-
-  pad-zero : field 124 4 H ≡ 0
-  unfolding syncChecks
-  pad-zero = is-zero (field 124 4 H) 1 (zeros .0 .1 .1 .1 .0)
+      let r = sync-rules in
+      sync-again S (rw (length-bitsOf s, length-s) refl) (r .type) (r .communication) r₃ (r .encryption) r₈ (r .pad)
 
   length-H : length H ≡ 128
   length-H = rw (length-bitsOf h, length-h) refl
@@ -194,72 +198,83 @@ module _ (s h : List ℕ) (good : readHeader s h .fault ≡ 0) (plain : readHead
   fields = fieldsOf H
 
   pub header-same : headerBlock 0 0 (bodyOf H .countdown) fields message ≡ H
-  header-same = header-again H length-H plain-is (zeros .1) r₀ pad-zero
+  header-same = header-again H length-H plain-is body-rules r₀ (sync-rules .pad-h)
 
   -- the run of elements that was read is the table's
-  first-run : bodyOf H .first ≡ runAt (shapeOf H) + widthIn H
+  abbrev at : ℕ
+  at = tailOf H
+
+  abbrev w : ℕ
+  w = widthIn at H
+
+  abbrev run : List Bool
+  run = drop (runIn at H) H
+
+  first-run : bodyOf H .tail .first ≡ runIn at H + w
   unfolding bodyOf
   first-run = refl
 
-  run-length : length (take (widthIn H) (drop (runAt (shapeOf H)) H)) ≡ widthIn H
+  run-length : length (take w run) ≡ w
   run-length =
-      let f = fits H length-H plain-is (zeros .1) r₀ pad-zero in
+      let f = body-rules .rules .tail .fits in
       let p = first-run in
-      rw (length-take (widthIn H) (drop (runAt (shapeOf H)) H), length-drop (runAt (shapeOf H)) H) (omega (arith, length-H))
+      rw (length-take w run, length-drop (runIn at H) H) (omega (arith, length-H))
 
   listed : entryOf (fields .message) .width ≤ 254
   unfolding bodyOf messageIn widthIn
   listed =
-      let l = leb-true (fields .width) 254 (holds (leb (fields .width) 254) 8 (zeros .1 .1 .1 .1 .0)) in
-      let r = entry-le (messageIn H) (drop (runAt (shapeOf H)) H) in
+      let l = body-rules .rules .tail .listed in
+      let r = entry-le (messageIn at H) run in
       omega arith
 
   table : widthOf (entryOf (fields .message)) (bitsN (fields .width) (fields .elements)) ≡ fields .width
   unfolding bodyOf messageIn widthIn
   table =
-      let w = widthIn H in
-      let r = drop (runAt (shapeOf H)) H in
-      rw (bitsN-is w (num (take w r)) (take w r) run-length refl)
-      (width-alone (messageIn H) (take w r) (drop w r) (rw (take-append-drop w r) (sym run-length)) ∙ run-length)
+      rw (bitsN-is w (num (take w run)) (take w run) run-length refl)
+      (width-alone (messageIn at H) (take w run) (drop w run) (rw (take-append-drop w run) (sym run-length))
+      ∙ run-length)
 
   pub run-fits : runFits (fields .message) (fields .width) (fields .elements) ≡ true
   unfolding runFits bodyOf
   run-fits =
+      let e = bitsN (fields .width) (fields .elements) in
       rw (
         le-leb (entryOf (fields .message) .width) 254 listed,
-        lt-ltb (fields .elements) (2 ^ fields .width) (num-take-lt (widthIn H) (drop (runAt (shapeOf H)) H)),
-        eq-eqb (widthOf (entryOf (fields .message)) (bitsN (fields .width) (fields .elements))) (fields .width) table,
+        lt-ltb (fields .elements) (2 ^ fields .width) (num-take-lt w run),
+        eq-eqb (widthOf (entryOf (fields .message)) e) (fields .width) table,
       ) refl
 
   pub fits-header : fitsHeader (headerBits fields) (length message) ≡ true
-  fits-header = le-leb (length message + headerBits fields) 124 (omega (arith, message-fits H length-H plain-is (zeros .1) r₀ pad-zero, first-is H length-H plain-is (zeros .1) r₀ pad-zero))
+  fits-header =
+      let m = message-fits H length-H plain-is body-rules r₀ (sync-rules .pad-h) in
+      let f = first-is H length-H plain-is body-rules r₀ (sync-rules .pad-h) in
+      le-leb (length message + headerBits fields) 124 (omega (arith, m, f))
 
-  pub in-range-again : {bytes lent : ℕ} → length message ≤ 8 * bytes → 24 ≤ lent → InRange (syncOf S) (bodyOf H .countdown) fields (length message) bytes lent
-  unfolding syncChecks syncOf
+  pub in-range-again : {bytes lent : ℕ} → length message ≤ 8 * bytes → 24 ≤ lent
+      → InRange (syncOf S) (bodyOf H .countdown) fields (length message) bytes lent
+  unfolding syncOf
   in-range-again l r =
-      let z = zeros .0 .1 .1 .1 .1 in
-      let y = syncOf S in
-      let b = zeros .1 in
+      let t = body-rules .rules .tail in
       record {
-        lowest = leb-true 10 (y .system) (holds (leb 10 (y .system)) 2 (z .0));
-        highest = let k = num-take-lt 4 (drop 0 S) in omega arith;
-        first-frame = leb-true 1 (y .frame) (holds (leb 1 (y .frame)) 6 (z .1 .1 .1 .1 .0));
-        last-frame = leb-true (y .frame) 18 (holds (leb (y .frame) 18) 6 (z .1 .1 .1 .1 .1 .0));
-        usage = let k = num-take-lt 2 (drop 10 S) in omega arith;
-        slot = let k = num-take-lt 2 (drop 12 S) in omega arith;
-        countdown-small = let k = small H .countdown in omega arith;
-        mni = small H .mni;
-        message = let k = small H .message in omega arith;
-        to-fits = small H .to;
-        from-fits = small H .from;
-        run = run-fits;
-        lent-bits = l;
-        to = leb-true (fields .destination .kind) 2 (holds (leb (fields .destination .kind) 2) 7 (b .1 .0));
-        from = leb-true (fields .source .kind) 2 (holds (leb (fields .source .kind) 2) 7 (b .1 .1 .0));
-        listed = listed;
-        header = rw fits-header refl;
-        count = rw (fits-header, sub-self (length message)) (omega arith);
-        room = rw (fits-header, sub-self (length message)) r;
+        numbers = record {
+          lowest = sync-rules .system;
+          highest = let k = num-take-lt 4 (drop 0 S) in omega arith;
+          first-frame = sync-rules .first-frame;
+          last-frame = sync-rules .last-frame;
+          usage = let k = num-take-lt 2 (drop 10 S) in omega arith;
+          slot = let k = num-take-lt 2 (drop 12 S) in omega arith;
+          countdown = let k = small H .falls in omega arith;
+          mni = small H .mni;
+          message = let k = small H .message in omega arith;
+        };
+        destination = record { kind = let k = t .to in omega arith; ssi = small H .to };
+        source = record { kind = let k = t .from in omega arith; ssi = small H .from };
+        elements = record { run = run-fits; lent = l };
+        header = record { to = t .to; from = t .from; listed = listed; fits = rw fits-header refl };
+        blocks = record {
+          count = rw (fits-header, sub-self (length message)) (omega arith);
+          room = rw (fits-header, sub-self (length message)) r;
+        };
       }
 
   -- and so do the bytes
@@ -267,5 +282,13 @@ module _ (s h : List ℕ) (good : readHeader s h .fault ≡ 0) (plain : readHead
   unfolding builtBits
   rebuilt hs hh =
       let l : length (s ++ h) ≡ 24 = length-append s h ∙ omega (arith, length-s, length-h) in
-      rw (fits-header, sub-self (length message), take-length message, sync-same, header-same, append-nil (S ++ H), ← bitsOf-append s h)
+      rw (
+        fits-header,
+        sub-self (length message),
+        take-length message,
+        sync-same,
+        header-same,
+        append-nil (S ++ H),
+        ← bitsOf-append s h,
+      )
       (ap₂ bytesN (sym l) (sym (append-nil (bitsOf (s ++ h)))) ∙ bytesN-bitsOf (s ++ h) [] (bytes-append s h hs hh))

@@ -1,6 +1,6 @@
 -- Reading the blocks that were built gives back what they were built from. Assumes nothing.
 use mathlib.Core.Path.{_≡_, refl, sym, ap, _∙_}
-use mathlib.Core.Bool.{Bool, true, false, cond}
+use mathlib.Core.Bool.{Bool, false}
 use mathlib.Core.List.{List, _++_, append-assoc}
 use mathlib.Core.Option.{some}
 use Prim.Native.Nat.{ℕ, _+_, _-_, _≤_}
@@ -26,6 +26,7 @@ use Rattle.blocks.specs.declared.header.Fields.{Fields}
 use Rattle.blocks.specs.declared.header.Header.{Header}
 use Rattle.blocks.proofs.FaultLaws.{chain-none}
 use Rattle.blocks.proofs.RoomLaws.{sdu-filled}
+use Rattle.build.proofs.BuildLaws.{told-le}
 use Rattle.build.proofs.ReadBackLaws.{sync-element, sync-back, body-back, elements-back, room-back, pad-back}
 
 -- what a header asks that is to read well
@@ -42,8 +43,10 @@ pub record Reads (y : Sync) (f count countdown : ℕ) (g : Fields) (m : List Boo
   pub narrow : g .width ≤ 45
   pub room : sduAt (shapeFor f g) + length m ≤ 124
 
-module _ {y : Sync} {f count countdown : ℕ} {g : Fields} {m : List Bool} (k : Reads y f count countdown g m) (s h : List ℕ)
-    (ls : length s ≡ 8) (lh : length h ≡ 16) (bs : bitsOf s ≡ pack (syncParts y)) (bh : bitsOf h ≡ headerBlock f count countdown g m) where
+module _ {y : Sync} {f count countdown : ℕ} {g : Fields} {m : List Bool} (k : Reads y f count countdown g m)
+    (s h : List ℕ)
+    (ls : length s ≡ 8) (lh : length h ≡ 16) (bs : bitsOf s ≡ pack (syncParts y))
+    (bh : bitsOf h ≡ headerBlock f count countdown g m) where
   sync-none : firstOf (syncChecks s h) ≡ 0
   unfolding syncChecks
   sync-none =
@@ -68,7 +71,9 @@ module _ {y : Sync} {f count countdown : ℕ} {g : Fields} {m : List Bool} (k : 
   first = sduAt (shapeFor f g)
 
   message-there : sduOf (fillTold (124 - first) m) (slice first 124 (headerBlock f count countdown g m)) ≡ some m
-  message-there = rw (room-back f count countdown g m (k .parts) (k .room)) (sdu-filled (124 - first) m (let r = k .room in omega arith))
+  message-there =
+      rw (room-back f count countdown g m (k .parts) (k .room))
+      (sdu-filled (124 - first) m (let r = k .room in omega arith))
 
   body-none : firstOf (bodyChecks (bitsOf h)) ≡ 0
   body-none =
@@ -84,18 +89,29 @@ module _ {y : Sync} {f count countdown : ℕ} {g : Fields} {m : List Bool} (k : 
       ) refl
 
   abbrev read : Header
-  read = record { fault = 0; sync = y; fragmented = f; count = count; countdown = countdown; fields = g; first = first; bits = length m }
+  read =
+      record {
+        fault = 0;
+        sync = y;
+        fragmented = f;
+        count = count;
+        countdown = countdown;
+        fields = g;
+        first = first;
+        bits = length m;
+      }
 
   pub header-reads : readHeader s h ≡ read
   unfolding readHeader
   header-reads =
-      ap (λ (n : ℕ). answered n (headerOf (syncOf (bitsOf s)) (bitsOf h))) (chain-none (syncChecks s h) (bodyChecks (bitsOf h)) sync-none ∙ body-none)
+      ap (λ (n : ℕ). answered n (headerOf (syncOf (bitsOf s)) (bitsOf h)))
+      (chain-none (syncChecks s h) (bodyChecks (bitsOf h)) sync-none ∙ body-none)
       ∙ rw (
         bs,
         bh,
         sync-back y (k .sync),
-        elements-back f count countdown g m (k .parts) (k .room) (k .table),
         body-back f count countdown g m (k .parts) (k .room) (k .table),
+        elements-back f count countdown g m (k .parts) (k .room),
         message-there,
       ) refl
 
@@ -105,7 +121,8 @@ module _ {y : Sync} {f count countdown : ℕ} {g : Fields} {m : List Bool} (k : 
 
 -- ---- a continuation block
 
-module _ (last : ℕ) (m : List Bool) (h : last ≤ 1) (l : length m ≤ 264) (s : List ℕ) (ls : length s ≡ 34) (bs : bitsOf s ≡ continuationBlock last m) where
+module _ (last : ℕ) (m : List Bool) (h : last ≤ 1) (l : length m ≤ 264) (s : List ℕ) (ls : length s ≡ 34)
+    (bs : bitsOf s ≡ continuationBlock last m) where
   abbrev fill : ℕ
   fill = fillTold 264 m
 
@@ -114,10 +131,6 @@ module _ (last : ℕ) (m : List Bool) (h : last ≤ 1) (l : length m ≤ 264) (s
 
   fill-le : fill ≤ 1
   fill-le = told-le (ltb (length m) 264)
-    where
-      told-le : (t : Bool) → cond t 1 0 ≤ 1
-      told-le true = omega arith
-      told-le false = omega arith
 
   block-parts : partsIn 0 continuationLayout (continuationBlock last m) ≡ ps
   block-parts =
@@ -125,7 +138,9 @@ module _ (last : ℕ) (m : List Bool) (h : last ≤ 1) (l : length m ≤ 264) (s
       read-pack 0 ps (continuationBlock last m) (omega arith, (omega arith, (omega arith, tt)))
       (take-at (pack ps) (roomBits 264 m) 4 (length-pack ps))
 
-  block-element : (k : ℕ) → (getD (partsIn 0 continuationLayout (continuationBlock last m)) k (part 0 0)) .value ≡ (getD ps k (part 0 0)) .value
+  block-element : (k : ℕ)
+      → (getD (partsIn 0 continuationLayout (continuationBlock last m)) k (part 0 0)) .value
+      ≡ (getD ps k (part 0 0)) .value
   block-element k = ap (λ (p : List Part). (getD p k (part 0 0)) .value) block-parts
 
   block-whole : continuationBlock last m ≡ (pack ps ++ filled 264 m) ++ replicate 4 false
@@ -135,7 +150,9 @@ module _ (last : ℕ) (m : List Bool) (h : last ≤ 1) (l : length m ≤ 264) (s
   length-whole = length-append (pack ps) (filled 264 m) ∙ omega (arith, length-pack ps, length-filled 264 m l)
 
   block-room : slice 4 268 (continuationBlock last m) ≡ filled 264 m
-  block-room = rw (block-whole, take-at (pack ps ++ filled 264 m) (replicate 4 false) 268 length-whole) (drop-at (pack ps) (filled 264 m) 4 (length-pack ps))
+  block-room =
+      rw (block-whole, take-at (pack ps ++ filled 264 m) (replicate 4 false) 268 length-whole)
+      (drop-at (pack ps) (filled 264 m) 4 (length-pack ps))
 
   block-pad : field 268 4 (continuationBlock last m) ≡ 0
   unfolding num bit

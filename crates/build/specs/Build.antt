@@ -30,7 +30,8 @@ shapeFor f g = shape f (g .destination .kind) (g .source .kind) (g .width)
 abbrev pub headerParts : ℕ → ℕ → ℕ → ℕ → Fields → List Part
 headerParts fill f count countdown g =
     partsWith (headerLayout (shapeFor f g))
-    (0 ∷ fill ∷ f ∷ count ∷ countdown ∷ g .destination .kind ∷ g .destination .ssi ∷ g .source .kind ∷ g .source .ssi ∷ g .mni ∷ g .message ∷ g .elements ∷ [])
+    (0 ∷ fill ∷ f ∷ count ∷ countdown ∷ g .destination .kind ∷ g .destination .ssi ∷ g .source .kind ∷ g .source .ssi
+    ∷ g .mni ∷ g .message ∷ g .elements ∷ [])
 
 -- SCH/H with these message bits.
 abbrev pub headerBlock : ℕ → ℕ → ℕ → Fields → List Bool → List Bool
@@ -85,7 +86,8 @@ outAs (suc f) bytes old = old
 
 unfoldable pub outOf : Sync → ℕ → Fields → ℕ → List ℕ → List ℕ → List ℕ
 outOf y countdown g n message old =
-    outAs (buildFault y countdown g n (length message) (length old)) (builtBytes y countdown g (take n (bitsOf message))) old
+    outAs (buildFault y countdown g n (length message) (length old))
+    (builtBytes y countdown g (take n (bitsOf message))) old
 
 -- ---- The blocks of an output: SCH/S, SCH/H, and so many continuation blocks after them.
 

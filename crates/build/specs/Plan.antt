@@ -11,13 +11,10 @@ use Rattle.blocks.specs.declared.sync.Sync.{Sync}
 use Rattle.blocks.specs.declared.header.Fields.{Fields}
 use Rattle.build.specs.declared.plan.Plan.{Plan}
 
--- The header's bits without the slot count, by its two address types and the width of its elements.
-abbrev pub headerBitsOf : ℕ → ℕ → ℕ → ℕ
-headerBitsOf to from width = sduAt (shape 0 to from width)
-
--- Of these fields; whether the message goes into the header; the number of continuation blocks.
+-- The header's bits without the slot count; whether the message goes into the header; the number of continuation
+-- blocks.
 abbrev pub headerBits : Fields → ℕ
-headerBits g = headerBitsOf (g .destination .kind) (g .source .kind) (g .width)
+headerBits g = sduAt (shape 0 (g .destination .kind) (g .source .kind) (g .width))
 
 abbrev pub fragmentedFor : Fields → ℕ → ℕ
 fragmentedFor g n = cond (fitsHeader (headerBits g) n) 0 1
@@ -45,26 +42,36 @@ numberRules system frame usage slot countdown mni message =
 abbrev pub addressRules : ℕ → ℕ → List ℕ
 addressRules kind ssi = unless (leb kind 3) 13 ∷ unless (ltb ssi (2 ^ addressWidth kind)) 13 ∷ []
 
--- 8, 9, 14 and 1. The header is measured with its slot count where the message does not fit it.
-abbrev pub cutRules : ℕ → ℕ → ℕ → ℕ → ℕ → ℕ → List ℕ
-cutRules to from entry h n lent =
+-- 13: the run of elements is the table's, and the bits are lent.
+abbrev pub elementRules : ℕ → ℕ → ℕ → ℕ → ℕ → List ℕ
+elementRules message width elements n bytes =
+    unless (runFits message width elements) 13 ∷ unless (leb n (8 * bytes)) 13 ∷ []
+
+-- 8 and 9: the header, which is measured with its slot count where the message does not fit it.
+abbrev pub headerRules : ℕ → ℕ → ℕ → ℕ → ℕ → List ℕ
+headerRules to from entry h n =
     unless (leb to 2) 8 ∷
     unless (leb from 2) 8 ∷
     unless (leb entry 254) 9 ∷
     unless (cond (fitsHeader h n) true (leb h 120)) 9 ∷
-    unless (leb (blockCount h n) 15) 14 ∷
-    unless (leb (24 + 34 * blockCount h n) lent) 1 ∷
     []
+
+-- 14 and 1: the continuation blocks, and the output.
+abbrev pub lengthRules : ℕ → ℕ → ℕ → List ℕ
+lengthRules h n lent =
+    unless (leb (blockCount h n) 15) 14 ∷ unless (leb (24 + 34 * blockCount h n) lent) 1 ∷ []
 
 -- A build of n of the lent message's bits into a lent output of so many bytes.
 abbrev pub buildChecks : Sync → ℕ → Fields → ℕ → ℕ → ℕ → List ℕ
 buildChecks y countdown g n bytes lent =
+    let d = g .destination in
+    let s = g .source in
     numberRules (y .system) (y .frame) (y .usage) (y .slot) countdown (g .mni) (g .message) ++
-    (addressRules (g .destination .kind) (g .destination .ssi) ++
-    (addressRules (g .source .kind) (g .source .ssi) ++
-    (unless (runFits (g .message) (g .width) (g .elements)) 13 ∷
-    unless (leb n (8 * bytes)) 13 ∷
-    cutRules (g .destination .kind) (g .source .kind) (entryOf (g .message) .width) (headerBits g) n lent)))
+    (addressRules (d .kind) (d .ssi) ++
+    (addressRules (s .kind) (s .ssi) ++
+    (elementRules (g .message) (g .width) (g .elements) n bytes ++
+    (headerRules (d .kind) (s .kind) (entryOf (g .message) .width) (headerBits g) n ++
+    lengthRules (headerBits g) n lent))))
 
 unfoldable pub buildFault : Sync → ℕ → Fields → ℕ → ℕ → ℕ → ℕ
 buildFault y countdown g n bytes lent = firstOf (buildChecks y countdown g n bytes lent)
@@ -75,11 +82,12 @@ abbrev pub noPlan : ℕ → Plan
 noPlan fault = record { fault = fault; fragmented = 0; inside = 0; blocks = 0 }
 
 abbrev pub planAs : ℕ → ℕ → ℕ → Plan
-planAs zero h n = record { fault = 0; fragmented = cond (fitsHeader h n) 0 1; inside = inHeader h n; blocks = blockCount h n }
+planAs zero h n =
+    record { fault = 0; fragmented = cond (fitsHeader h n) 0 1; inside = inHeader h n; blocks = blockCount h n }
 planAs (suc f) h n = noPlan (suc f)
 
 unfoldable pub planOf : ℕ → ℕ → ℕ → ℕ → ℕ → ℕ → Plan
-planOf to from entry h n lent = planAs (firstOf (cutRules to from entry h n lent)) h n
+planOf to from entry h n lent = planAs (firstOf (headerRules to from entry h n ++ lengthRules h n lent)) h n
 
 unfoldable pub plannedOf : Sync → ℕ → Fields → ℕ → ℕ → ℕ → Plan
 plannedOf y countdown g n bytes lent = planAs (buildFault y countdown g n bytes lent) (headerBits g) n

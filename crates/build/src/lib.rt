@@ -1,15 +1,19 @@
 // Building a message: SCH/S, SCH/H and the continuation blocks, one after another.
 ghost use mathlib.Core.Path.{_≡_};
 ghost use mathlib.Core.Bool.{cond};
-ghost use Prim.Native.Nat.{_+_, _*_, _≤_, min};
+ghost use Prim.Native.Nat.{_+_, _*_, _≤_};
 ghost use lib.Dec.{eqb, ltb};
 ghost use lib.ListN.{length, take, drop};
 ghost use Rattle.bits.specs.Bits.{bitsOf, over, Inside};
 ghost use Rattle.bits.specs.Layout.{AllFit, pack};
 ghost use Rattle.blocks.specs.Sync.{syncParts};
-ghost use Rattle.build.specs.Build.{HeaderFits, roomBits, headerBlock, continuationBlock, continuationBlocks, buildOf, outOf};
+ghost use Rattle.blocks.specs.Header.{shape, headerLayout};
+ghost use Rattle.build.specs.Build.{HeaderFits, roomBits, headerBlock, continuationBlock, continuationBlocks};
+ghost use Rattle.build.specs.Build.{buildOf, outOf};
+use bits::least;
 use blocks::header::Fields;
 use blocks::header::address_width;
+use blocks::header::header_bits;
 use blocks::sync::Sync;
 
 mod plan;
@@ -21,10 +25,14 @@ pub struct Built {
     pub blocks: u8,
 }
 
-// Puts `count` bits of the message, from bit `from` on, into the room of so many bits at bit `at`, fills the room, and writes the four pad bits after it.
+// Puts `count` bits of the message, from bit `from` on, into the room of so many bits at bit `at`, fills the room, and
+// writes the four pad bits after it.
 fn put_room(message: &[u8], from: usize, count: usize, out: &mut [u8], at: usize, room: usize)
-    requires { ⌜ Inside (length (now message)) from (from + count) × Inside (length (now out)) at (at + room + 4) × (count ≤ room) ⌝ }
-    ensures { λ r. ⌜ bitsOf (now (out .exit)) ≡ over at (roomBits room (take count (drop from (bitsOf (now (message .entry)))))) (bitsOf (now (out .entry))) ⌝ }
+    requires { ⌜ Inside (length (now message)) from (from + count) × Inside (length (now out)) at (at + room + 4)
+        × (count ≤ room) ⌝ }
+    ensures { λ r. ⌜ bitsOf (now (out .exit))
+        ≡ over at (roomBits room (take count (drop from (bitsOf (now (message .entry))))))
+        (bitsOf (now (out .entry))) ⌝ }
 {
     bits::copy(message, from, out, at, count);
     bits::fill(out, at + count, at + room);
@@ -41,18 +49,15 @@ const CONTINUATION: [u8; 3] = [2, 1, 1];
 
 // A continuation block at bit `at`: DMAC-FRAG (0) or DMAC-END (1) with `count` bits of the message.
 fn put_block(last: u64, message: &[u8], from: usize, count: usize, out: &mut [u8], at: usize)
-    requires { ⌜ (last ≤ 1) × Inside (length (now message)) from (from + count) × Inside (length (now out)) at (at + 272) × (count ≤ 264) ⌝ }
-    ensures { λ r. ⌜ bitsOf (now (out .exit)) ≡ over at (continuationBlock last (take count (drop from (bitsOf (now (message .entry)))))) (bitsOf (now (out .entry))) ⌝ }
+    requires { ⌜ (last ≤ 1) × Inside (length (now message)) from (from + count)
+        × Inside (length (now out)) at (at + 272) × (count ≤ 264) ⌝ }
+    ensures { λ r. ⌜ bitsOf (now (out .exit))
+        ≡ over at (continuationBlock last (take count (drop from (bitsOf (now (message .entry))))))
+        (bitsOf (now (out .entry))) ⌝ }
 {
     let values: [u64; 3] = [1, last, told(count, 264)];
     bits::put_all(out, at, &CONTINUATION, &values);
     put_room(message, from, count, out, at + 4, 264);
-}
-
-fn least(a: usize, b: usize) -> usize
-    ensures { λ r. ⌜ r ≡ min a b ⌝ }
-{
-    if a < b { a } else { b }
 }
 
 fn last_when(left: usize) -> u64
@@ -63,8 +68,11 @@ fn last_when(left: usize) -> u64
 
 // The continuation blocks of the message's bits from bit `inside` up to bit `n`, from bit 192 on.
 fn put_blocks(message: &[u8], inside: usize, n: usize, blocks: usize, out: &mut [u8])
-    requires { ⌜ (inside ≤ n) × Inside (length (now message)) 0 n × (blocks ≤ 15) × (24 + 34 * blocks ≤ length (now out)) ⌝ }
-    ensures { λ r. ⌜ bitsOf (now (out .exit)) ≡ over 192 (continuationBlocks blocks (drop inside (take n (bitsOf (now (message .entry)))))) (bitsOf (now (out .entry))) ⌝ }
+    requires { ⌜ (inside ≤ n) × Inside (length (now message)) 0 n × (blocks ≤ 15)
+        × (24 + 34 * blocks ≤ length (now out)) ⌝ }
+    ensures { λ r. ⌜ bitsOf (now (out .exit))
+        ≡ over 192 (continuationBlocks blocks (drop inside (take n (bitsOf (now (message .entry))))))
+        (bitsOf (now (out .entry))) ⌝ }
 {
     let mut left = blocks;
     let mut from = inside;
@@ -100,6 +108,16 @@ fn put_sync(sync: Sync, out: &mut [u8])
     bits::put_all(out, 0, &SYNC, &values);
 }
 
+// The widths of SCH/H's elements, in order.
+fn header_widths(fragmented: u8, to: u8, from: u8, width: u8) -> [u8; 12]
+    requires { ⌜ fragmented ≤ 1 ⌝ }
+    ensures { λ r. ⌜ r ≡ headerLayout (shape fragmented to from width) ⌝ }
+{
+    let d = address_width(to) as u8;
+    let s = address_width(from) as u8;
+    [10, 1, 1, 4 * fragmented, 2, 2, d, 2, s, 24, 5, width]
+}
+
 // SCH/H, from bit 64 on, with the first `inside` bits of the message.
 fn put_header(
     fragmented: u8,
@@ -110,37 +128,16 @@ fn put_header(
     inside: usize,
     out: &mut [u8],
 )
-    requires { ⌜ HeaderFits fragmented count countdown fields inside × Inside (length (now message)) 0 inside × (24 ≤ length (now out)) ⌝ }
-    ensures { λ r. ⌜ bitsOf (now (out .exit)) ≡ over 64 (headerBlock fragmented count countdown fields (take inside (bitsOf (now (message .entry))))) (bitsOf (now (out .entry))) ⌝ }
+    requires { ⌜ HeaderFits fragmented count countdown fields inside × Inside (length (now message)) 0 inside
+        × (24 ≤ length (now out)) ⌝ }
+    ensures { λ r. ⌜ bitsOf (now (out .exit))
+        ≡ over 64 (headerBlock fragmented count countdown fields (take inside (bitsOf (now (message .entry)))))
+        (bitsOf (now (out .entry))) ⌝ }
 {
     let d = fields.destination;
     let s = fields.source;
-    let to = address_width(d.kind);
-    let from = address_width(s.kind);
-    let widths: [u8; 12] = [
-        10,
-        1,
-        1,
-        4 * fragmented,
-        2,
-        2,
-        to as u8,
-        2,
-        from as u8,
-        24,
-        5,
-        fields.width,
-    ];
-    let first = 12
-        + 4 * (fragmented as usize)
-        + 2
-        + 2
-        + to
-        + 2
-        + from
-        + 24
-        + 5
-        + (fields.width as usize);
+    let widths = header_widths(fragmented, d.kind, s.kind, fields.width);
+    let first = header_bits(fragmented, d.kind, s.kind, fields.width);
     let room = 124 - first;
     let values: [u64; 12] = [
         0,

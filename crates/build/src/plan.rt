@@ -4,10 +4,11 @@ ghost use Prim.Native.Nat.{_^_};
 ghost use Rattle.blocks.specs.Faults.{firstOf};
 ghost use Rattle.blocks.specs.Header.{addressWidth};
 ghost use Rattle.blocks.specs.Slots.{fitsHeader};
-ghost use Rattle.build.specs.Plan.{headerBitsOf, numberRules, addressRules, noPlan, planOf, plannedOf};
+ghost use Rattle.build.specs.Plan.{numberRules, addressRules, noPlan, planOf, plannedOf};
 use bits::bits_lent;
+use blocks::fault::Fault;
 use blocks::header::Fields;
-use blocks::header::address_width;
+use blocks::header::header_bits;
 use blocks::sync::Sync;
 
 // The first of the faults 3, 7 and 13 that these numbers give, 0 where they give none.
@@ -23,31 +24,31 @@ fn number_rules(
     ensures { λ r. ⌜ r ≡ firstOf (numberRules system frame usage slot countdown mni message) ⌝ }
 {
     if system < 10 {
-        return 3;
+        return Fault::SYSTEM;
     }
     if 15 < system {
-        return 3;
+        return Fault::SYSTEM;
     }
     if frame < 1 {
-        return 7;
+        return Fault::FRAME;
     }
     if 18 < frame {
-        return 7;
+        return Fault::FRAME;
     }
     if 3 < usage {
-        return 13;
+        return Fault::RANGE;
     }
     if 3 < slot {
-        return 13;
+        return Fault::RANGE;
     }
     if 3 < countdown {
-        return 13;
+        return Fault::RANGE;
     }
     if 16777216 <= mni {
-        return 13;
+        return Fault::RANGE;
     }
     if 31 < message {
-        return 13;
+        return Fault::RANGE;
     }
     0
 }
@@ -64,10 +65,10 @@ fn address_rules(kind: u8, ssi: u32) -> u8
     ensures { λ r. ⌜ r ≡ firstOf (addressRules kind ssi) ⌝ }
 {
     if 3 < kind {
-        return 13;
+        return Fault::RANGE;
     }
     if address_most(kind) <= ssi {
-        return 13;
+        return Fault::RANGE;
     }
     0
 }
@@ -82,7 +83,8 @@ fn fits_header(h: usize, n: usize) -> bool
     h <= 124 - n
 }
 
-// How a message is cut: the fragmentation flag, the bits that the header takes, the number of continuation blocks; or the fault.
+// How a message is cut: the fragmentation flag, the bits that the header takes, the number of continuation blocks; or
+// the fault.
 pub struct Plan {
     pub fault: u8,
     pub fragmented: u8,
@@ -101,22 +103,23 @@ fn no_plan(fault: u8) -> Plan
     }
 }
 
-// The first of the faults 8, 9, 14 and 1, or the plan, for a message of n bits after a header of h, and an output of so many bytes.
+// The first of the faults 8, 9, 14 and 1, or the plan, for a message of n bits after a header of h, and an output of so
+// many bytes.
 fn plan_of(to: u8, from: u8, entry: u8, h: usize, n: usize, lent: usize) -> Plan
     ensures { λ r. ⌜ r ≡ planOf to from entry h n lent ⌝ }
 {
     if 2 < to {
-        return no_plan(8);
+        return no_plan(Fault::ADDRESS_TYPE);
     }
     if 2 < from {
-        return no_plan(8);
+        return no_plan(Fault::ADDRESS_TYPE);
     }
     if 254 < entry {
-        return no_plan(9);
+        return no_plan(Fault::MESSAGE_TYPE);
     }
     if fits_header(h, n) {
         if lent < 24 {
-            return no_plan(1);
+            return no_plan(Fault::LENGTH);
         }
         return Plan {
             fault: 0,
@@ -126,16 +129,16 @@ fn plan_of(to: u8, from: u8, entry: u8, h: usize, n: usize, lent: usize) -> Plan
         };
     }
     if 120 < h {
-        return no_plan(9);
+        return no_plan(Fault::MESSAGE_TYPE);
     }
     let inside = 120 - h;
     let rest = n - inside;
     if 3960 < rest {
-        return no_plan(14);
+        return no_plan(Fault::TOO_LONG);
     }
     let blocks = (rest + 263) / 264;
     if lent < 24 + 34 * blocks {
-        return no_plan(1);
+        return no_plan(Fault::LENGTH);
     }
     Plan {
         fault: 0,
@@ -143,13 +146,6 @@ fn plan_of(to: u8, from: u8, entry: u8, h: usize, n: usize, lent: usize) -> Plan
         inside,
         blocks,
     }
-}
-
-// The header's bits without the slot count.
-fn header_bits(to: u8, from: u8, width: u8) -> usize
-    ensures { λ r. ⌜ r ≡ headerBitsOf to from width ⌝ }
-{
-    16 + address_width(to) + 2 + address_width(from) + 24 + 5 + (width as usize)
 }
 
 // All of it: the plan, or the fault.
@@ -186,12 +182,12 @@ pub(crate) fn planned(
         return no_plan(from);
     }
     if !blocks::widths::run_fits(fields.message, fields.width, fields.elements) {
-        return no_plan(13);
+        return no_plan(Fault::RANGE);
     }
     if !bits_lent(n, bytes) {
-        return no_plan(13);
+        return no_plan(Fault::RANGE);
     }
-    let h = header_bits(d.kind, s.kind, fields.width);
+    let h = header_bits(0, d.kind, s.kind, fields.width);
     plan_of(
         d.kind,
         s.kind,

@@ -3,7 +3,7 @@ use mathlib.Core.Path.{_≡_, refl, sym, ap, ap₂, _∙_}
 use mathlib.Core.Bool.{Bool, true, false, cond}
 use mathlib.Core.List.{List, [], _∷_, _++_, append-nil}
 use mathlib.Core.Logic.{_⊎_, inl, inr, ⊎-elim}
-use Prim.Native.Nat.{ℕ, zero, suc, _+_, _-_, _*_, _/_, _^_, _≤_, _<_}
+use Prim.Native.Nat.{ℕ, suc, _+_, _-_, _*_, _/_, _^_, _≤_, _<_}
 use native.Mathlib.Nat.{sub-self}
 use native.Mathlib.Omega.{arith}
 use lib.Dec.{leb}
@@ -28,6 +28,7 @@ use Rattle.build.specs.Plan.{fragmentedFor, blocksFor, buildFault}
 use Rattle.build.specs.Build.{shapeFor, headerParts, headerBlock, continuationBlock, continuationBlocks, builtBits, builtAs, buildOf, outOf, schS, schH, schFs, readAll, expected, blockBits}
 use Rattle.blocks.proofs.FaultLaws.{given-first}
 use Rattle.build.proofs.RangeLaws as fields
+use Rattle.build.proofs.OutputLaws.{built-fault}
 use Rattle.build.proofs.JoinLaws.{built-reads, built-blocks, built-joined}
 use Rattle.build.proofs.RebuildLaws.{read-is, in-range-again, fits-header, rebuilt, length-s, length-h}
 use Rattle.demands.specs.Demand2.{Call, bits, h, k, answer, after, InRange, checks, built, headerBack, headerMessage, padded, Demand2}
@@ -63,26 +64,25 @@ module _ (c : Call) (r : InRange c) where
   module _ (few : k c ≤ 15) where
     ranged : {lent : ℕ} → 24 + 34 * k c ≤ lent → fields.InRange (c .sync) (c .countdown) (c .fields) (c .n) (length (c .message)) lent
     ranged room =
+        let d = r .destination in
+        let s = r .source in
         record {
-          lowest = r .system .0;
-          highest = r .system .1;
-          first-frame = r .frame .0;
-          last-frame = r .frame .1;
-          usage = r .usage;
-          slot = r .slot;
-          countdown-small = r .countdown;
-          mni = r .mni;
-          message = r .message;
-          to-fits = r .destination .ssi;
-          from-fits = r .source .ssi;
-          run = run-holds;
-          lent-bits = r .lent;
-          to = r .destination .kind;
-          from = r .source .kind;
-          listed = r .listed;
-          header = header-holds;
-          count = few;
-          room = room;
+          numbers = record {
+            lowest = r .system .0;
+            highest = r .system .1;
+            first-frame = r .frame .0;
+            last-frame = r .frame .1;
+            usage = r .usage;
+            slot = r .slot;
+            countdown = r .countdown;
+            mni = r .mni;
+            message = r .message;
+          };
+          destination = record { kind = let k = d .kind in omega arith; ssi = d .ssi };
+          source = record { kind = let k = s .kind in omega arith; ssi = s .ssi };
+          elements = record { run = run-holds; lent = r .lent };
+          header = record { to = d .kind; from = s .kind; listed = r .listed; fits = header-holds };
+          blocks = record { count = few; room = room };
         }
 
     -- the same of the message's own bits
@@ -93,7 +93,7 @@ module _ (c : Call) (r : InRange c) where
     unfolding buildOf outOf
     builds room =
         let l : length (built c) ≡ 24 + 34 * k c = length-bytesN (24 + 34 * blocksFor (c .fields) (length (bits c))) (builtBits (c .sync) (c .countdown) (c .fields) (bits c)) ∙ rw all-lent refl in
-        rw (fields.no-fault (ranged room)) (refl, ap (λ (n : ℕ). built c ++ drop n (c .out)) l)
+        rw (fields.no-fault _ _ _ _ _ _ (ranged room)) (refl, ap (λ (n : ℕ). built c ++ drop n (c .out)) l)
 
   -- ---- the layout
 
@@ -169,7 +169,7 @@ module _ (s b : List ℕ) (hs : AllBytes s) (hb : AllBytes b) (good : readHeader
       → (answer (again read) ≡ record { fault = 0; blocks = 0 }) × (after (again read) ≡ (s ++ b) ++ drop 24 out)
   unfolding buildOf outOf
   rebuilds-read m l o =
-      let none = fields.no-fault (in-range-again s b good plain r₃ r₈ r₀ l o) in
+      let none = fields.no-fault _ _ _ _ _ _ (in-range-again s b good plain r₃ r₈ r₀ l o) in
       let n = length (headerMessage b) in
       let k₀ : blocksFor (fieldsOf (bitsOf b)) n ≡ 0 = rw (fits-header s b good plain r₃ r₈ r₀, sub-self n) refl in
       let l₂ : length (s ++ b) ≡ 24 = length-append s b ∙ omega (arith, length-s s b good plain r₃ r₈ r₀, length-h s b good plain r₃ r₈ r₀) in
@@ -184,17 +184,13 @@ module _ (s b : List ℕ) (hs : AllBytes s) (hb : AllBytes b) (good : readHeader
 
 -- ---- refusals
 
-answer-fault : (f n : ℕ) → builtAs f n .fault ≡ f
-answer-fault zero n = refl
-answer-fault (suc f) n = refl
-
 module _ (c : Call) where
   abbrev fault : ℕ
   fault = buildFault (c .sync) (c .countdown) (c .fields) (c .n) (length (c .message)) (length (c .out))
 
   fault-is : answer c .fault ≡ fault
   unfolding buildOf
-  fault-is = answer-fault fault (k c)
+  fault-is = built-fault fault (k c)
 
   header-when : (t : Bool) → fitsHeader (h c) (c .n) ≡ t → cond t true (leb (h c) 120) ≡ true → (c .n + h c ≤ 124) ⊎ (h c + 4 ≤ 124)
   header-when true f e = inl (leb-true (c .n + h c) 124 f)
@@ -204,23 +200,23 @@ module _ (c : Call) where
   taken e =
       let r = fields.in-range (c .sync) (c .countdown) (c .fields) (c .n) (length (c .message)) (length (c .out)) (sym fault-is ∙ e) in (
         record {
-          system = (r .lowest, r .highest);
-          frame = (r .first-frame, r .last-frame);
-          usage = r .usage;
-          slot = r .slot;
-          countdown = r .countdown-small;
-          destination = record { kind = r .to; ssi = r .to-fits };
-          source = record { kind = r .from; ssi = r .from-fits };
-          mni = r .mni;
-          message = r .message;
-          listed = r .listed;
+          system = (r .numbers .lowest, r .numbers .highest);
+          frame = (r .numbers .first-frame, r .numbers .last-frame);
+          usage = r .numbers .usage;
+          slot = r .numbers .slot;
+          countdown = r .numbers .countdown;
+          destination = record { kind = r .header .to; ssi = r .destination .ssi };
+          source = record { kind = r .header .from; ssi = r .source .ssi };
+          mni = r .numbers .mni;
+          message = r .numbers .message;
+          listed = r .header .listed;
           table = fields.width-is r;
           elements = fields.elements-fit r;
-          lent = r .lent-bits;
-          header = header-when (fitsHeader (h c) (c .n)) refl (r .header);
+          lent = r .elements .lent;
+          header = header-when (fitsHeader (h c) (c .n)) refl (r .header .fits);
         },
-        r .count,
-        r .room,
+        r .blocks .count,
+        r .blocks .room,
       )
 
   refused : (n : ℕ) → answer c .fault ≡ suc n → GivenFirst n (checks c) × (answer c .blocks ≡ 0) × (after c ≡ c .out)

@@ -1,4 +1,6 @@
--- The proofs of the demands.
+-- The proofs of the demands and of the examples.
 pub mod Demand2Holds
 pub mod Demand3Holds
 pub mod Demand1Holds
+pub mod ExamplesHold
+pub mod RunHolds

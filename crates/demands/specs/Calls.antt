@@ -1,32 +1,36 @@
--- The calls that a program makes of one receiver. `fresh` promises `freshOf`, `hear` promises `Hears`; it asks for a receiver that `fresh` or an earlier
--- `hear` gave, and nothing else.
+-- The calls that a program makes of one receiver. `fresh` promises `freshOf`, `hear` promises `Hears`; it asks for a
+-- receiver that `fresh` or an earlier `hear` gave, and nothing else.
 use mathlib.Core.Path.{_≡_}
 use mathlib.Core.List.{List}
 use Prim.Native.Nat.{ℕ, suc}
 use Rattle.history.specs.Line.{Line, start, _▸_}
 use Rattle.history.specs.Slots.{Report}
 use Rattle.history.specs.History.{History}
-use Rattle.reports.specs.Lent.{Lent}
+use Rattle.reports.specs.Lent.{Lent, Event}
 use Rattle.reports.specs.declared.unit.Settings.{Settings}
-use Rattle.receiver.specs.Held.{freshOf}
+use Rattle.receiver.specs.View.{freshOf}
 use Rattle.receiver.specs.Reached.{reportOf, reports, refusedWith, Hears}
 use Rattle.receiver.specs.declared.answer.Answer.{Answer}
 use Rattle.receiver.specs.declared.Receiver.{Receiver}
 use Rattle.receiver.specs.declared.Reply.{Reply}
 use Rattle.receiver.specs.declared.Fresh.{Fresh}
 
--- From a fresh receiver, with any settings, through any reports, refused ones too: its settings, the accepted reports, oldest first, and the receiver now.
-pub data Calls : Settings → Line Lent → Receiver → Type 0 where
-  begun : (individual group mni : ℕ) (f : Fresh) → f ≡ freshOf individual group mni → Calls (f .receiver .settings) start (f .receiver)
-  refused : {s : Settings} {ls : Line Lent} {before : Receiver} → Calls s ls before → (l : Lent) (r : Reply) (old new : List ℕ) → Hears before l r old new
+-- From a fresh receiver, with any settings, through any reports, refused ones too: its settings, the accepted reports,
+-- oldest first, and the receiver now.
+pub data Calls : Settings → Line Event → Receiver → Type 0 where
+  begun : (individual group mni : ℕ) (f : Fresh) → f ≡ freshOf individual group mni
+      → Calls (f .receiver .settings) start (f .receiver)
+  refused : {s : Settings} {ls : Line Event} {before : Receiver} → Calls s ls before
+      → (l : Lent) (r : Reply) (old new : List ℕ) → Hears before l r old new
       → (n : ℕ) → refusedWith l old ≡ suc n → Calls s ls (r .receiver)
-  accepted : {s : Settings} {ls : Line Lent} {before : Receiver} → Calls s ls before → (l : Lent) (r : Reply) (old new : List ℕ) → Hears before l r old new
+  accepted : {s : Settings} {ls : Line Event} {before : Receiver} → Calls s ls before
+      → (l : Lent) (r : Reply) (old new : List ℕ) → Hears before l r old new
       → refusedWith l old ≡ 0 → Calls s (ls ▸ l) (r .receiver)
 
--- One call more: the report and the reply, the lent buffer before and after.
-pub record Call : Type 0 where
+-- One call of `hear` more: the report and the reply, the lent buffer before and after.
+pub record HearCall : Type 0 where
   pub settings : Settings
-  pub earlier : Line Lent
+  pub earlier : Line Event
   pub before : Receiver
   pub calls : Calls settings earlier before
   pub report : Lent
@@ -36,11 +40,11 @@ pub record Call : Type 0 where
   pub hears : Hears before report reply old new
 
 -- The accepted reports before it, and its own, as they read; the answer.
-abbrev pub history : Call → History
+abbrev pub history : HearCall → History
 history c = reports (c .settings) (c .earlier)
 
-abbrev pub now : Call → Report
-now c = reportOf (c .settings) (c .report)
+abbrev pub current : HearCall → Report
+current c = reportOf (c .settings) (c .report)
 
-abbrev pub answer : Call → Answer
+abbrev pub answer : HearCall → Answer
 answer c = c .reply .answer

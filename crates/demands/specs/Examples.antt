@@ -1,20 +1,16 @@
 -- The twelve examples of document 01, 'Twelve examples to prove, as one table'.
-use mathlib.Core.Path.{_≡_, refl, ap₂}
-use mathlib.Core.Bool.{Bool, true, false, _&&_}
+use mathlib.Core.Path.{_≡_}
+use mathlib.Core.Bool.{Bool, false}
 use mathlib.Core.List.{List, [], _∷_}
 use Prim.Native.Nat.{ℕ, zero, suc, _-_, _*_}
-use lib.Dec.{eqb, T, eqb→eq}
 use lib.ListN.{replicate}
-use Rattle.bits.specs.Bits.{bit, num, bitsN, bitsOf, bytesN, testBit}
-use Rattle.bits.specs.Fill.{strip, before, filled, fillBits}
+use Rattle.bits.specs.Bits.{bit, bitsN, bytesN}
 use Rattle.blocks.specs.Faults.{unless}
-use Rattle.blocks.specs.Widths.{entryOf, widthOf, runFits}
 use Rattle.blocks.specs.Sdu.{sduOf, isThere, bitsIn}
-use Rattle.blocks.specs.Sync.{syncOf, syncChecks}
-use Rattle.blocks.specs.Header.{fragmentedIn, toIn, fromIn, messageIn, widthIn, bodyOf, readHeader}
+use Rattle.blocks.specs.Header.{readHeader}
 use Rattle.blocks.specs.Slots.{dueOf}
-use Rattle.build.specs.Plan.{planOf, buildFault}
-use Rattle.build.specs.Build.{continuationBlock, builtBits, builtBytes, buildOf, schS, schH}
+use Rattle.build.specs.Plan.{planOf}
+use Rattle.build.specs.Build.{continuationBlock, builtBytes, buildOf, schS, schH}
 use Rattle.blocks.specs.declared.sync.Sync.{Sync}
 use Rattle.blocks.specs.declared.header.Fields.{Fields}
 use Rattle.build.specs.declared.plan.Plan.{Plan}
@@ -22,27 +18,33 @@ use Rattle.build.specs.declared.plan.Plan.{Plan}
 -- An example: what the definitions give, and what the document says.
 pub record Example : Type 0 where
   pub given : List ℕ
-  pub told : List ℕ
+  pub stated : List ℕ
 
 abbrev pub _gives_ : List ℕ → List ℕ → Example
-a gives b = record { given = a; told = b }
+a gives b = record { given = a; stated = b }
 
 infixl 5 _gives_
--- How n message bits go after a header of h bits without its slot count: the fault; and if that is 0 the bits in the header, its fill bits, the number of
--- continuation blocks, and the bits in the last of them.
+-- How n message bits go after a header of h bits without its slot count: the fault; and if that is 0 the bits in the
+-- header, its fill bits, the number of continuation blocks, and the bits in the last of them.
 abbrev lastBits : ℕ → ℕ → ℕ
 lastBits zero rest = 0
 lastBits (suc k) rest = rest - 264 * k
 
 abbrev laidAs : ℕ → ℕ → ℕ → Plan → List ℕ
-laidAs zero h n p = 0 ∷ p .inside ∷ (124 - h - 4 * p .fragmented - p .inside) ∷ p .blocks ∷ lastBits (p .blocks) (n - p .inside) ∷ []
+laidAs zero h n p =
+    0 ∷
+    p .inside ∷
+    (124 - h - 4 * p .fragmented - p .inside) ∷
+    p .blocks ∷
+    lastBits (p .blocks) (n - p .inside) ∷
+    []
 laidAs (suc f) h n p = suc f ∷ []
 
 abbrev laid : ℕ → ℕ → List ℕ
 laid h n = let p = planOf 0 2 10 h n 1024 in laidAs (p .fault) h n p
 
--- The same through a real build, of a header of 93 bits: no source address, DM-PREEMPT with timing adjustment; a message of n zeros. The fault and the number
--- of continuation blocks.
+-- The same through a real build, of a header of 93 bits: no source address, DM-PREEMPT with timing adjustment; a
+-- message of n zeros. The fault and the number of continuation blocks.
 abbrev sync : Sync
 sync = record { system = 13; usage = 0; slot = 0; frame = 5 }
 
@@ -117,37 +119,4 @@ builds =
 -- Every example of a table holds.
 abbrev pub AllHold : List Example → Type 0
 AllHold [] = Unit {0}
-AllHold (e ∷ es) = (e .given ≡ e .told) × AllHold es
-
--- By computation: a test over the whole table.
-abbrev same : List ℕ → List ℕ → Bool
-same [] [] = true
-same [] (y ∷ ys) = false
-same (x ∷ xs) [] = false
-same (x ∷ xs) (y ∷ ys) = eqb x y && same xs ys
-
-abbrev pub agree : List Example → Bool
-agree [] = true
-agree (e ∷ es) = same (e .given) (e .told) && agree es
-
-both : (a b : Bool) → T (a && b) → T a × T b
-both true b t = (tt, t)
-both false b t = absurd t
-
-is-same : (xs ys : List ℕ) → T (same xs ys) → xs ≡ ys
-is-same [] [] t = refl
-is-same [] (y ∷ ys) t = absurd t
-is-same (x ∷ xs) [] t = absurd t
-is-same (x ∷ xs) (y ∷ ys) t = let p = both (eqb x y) (same xs ys) t in ap₂ _∷_ (eqb→eq x y (p .0)) (is-same xs ys (p .1))
-
-pub hold : (es : List Example) → T (agree es) → AllHold es
-hold [] t = tt
-hold (e ∷ es) t = let p = both (same (e .given) (e .told)) (agree es) t in (is-same (e .given) (e .told) (p .0), hold es (p .1))
-
-pub examples-hold : AllHold examples
-unfolding planOf dueOf strip before bit num bitsN testBit bytesN filled fillBits
-examples-hold = hold examples tt
-
-pub builds-hold : AllHold builds
-unfolding buildOf buildFault runFits entryOf widthOf builtBits readHeader syncChecks syncOf bodyOf fragmentedIn toIn fromIn messageIn widthIn strip before bit num bitsN bitsOf testBit bytesN filled fillBits
-builds-hold = hold builds tt
+AllHold (e ∷ es) = (e .given ≡ e .stated) × AllHold es

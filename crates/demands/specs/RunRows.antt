@@ -4,17 +4,18 @@ use mathlib.Core.List.{List}
 use Prim.Native.Nat.{ℕ, _*_}
 use lib.Dec.{eqb}
 use Rattle.bits.specs.Bits.{bitsN, bytesN}
-use Rattle.reports.specs.Lent.{Lent}
+use Rattle.reports.specs.Lent.{Lent, lent}
 
--- `told`: outcome, dropped, fault, bits.
+-- `stated`: outcome, dropped, fault, bits.
 pub record Row : Type 0 where
   pub lent : Lent
-  pub told : List ℕ
+  pub stated : List ℕ
 
 -- The bytes that a report of this kind lends, as one number, the first byte highest.
 abbrev pub bytesFor : ℕ → ℕ
 bytesFor kind = cond (eqb kind 1) 0 (cond (eqb kind 2) 24 34)
 
 abbrev pub row : ℕ → ℕ → ℕ → ℕ → List ℕ → Row
-row frame slot kind blocks told =
-    record { lent = record { frame = frame; slot = slot; kind = kind; blocks = bytesN (bytesFor kind) (bitsN (8 * bytesFor kind) blocks) }; told = told }
+row frame slot kind blocks stated =
+    let bytes = bytesN (bytesFor kind) (bitsN (8 * bytesFor kind) blocks) in
+    record { lent = lent frame slot kind bytes; stated = stated }

@@ -18,7 +18,8 @@ use Rattle.bits.proofs.Packing.{length-pack, pack-append}
 use Rattle.blocks.specs.Faults.{firstOf}
 use Rattle.blocks.specs.Sdu.{bitsIn, fillTold}
 use Rattle.blocks.specs.Sync.{syncOf, syncChecks}
-use Rattle.blocks.specs.Header.{addressWidth, sduAt, fragmentedIn, bodyOf, messageOf, placeRules, bodyChecks, headerFault, headerOf, answered, readHeader, readReported}
+use Rattle.blocks.specs.Header.{addressWidth, sduAt, fragmentedIn, bodyOf, messageOf, placeRules, bodyChecks}
+use Rattle.blocks.specs.Header.{headerFault, headerOf, answered, readHeader, readReported}
 use Rattle.blocks.specs.Continuation.{blockMessage, readContinuation}
 use Rattle.blocks.specs.Slots.{fitsHeader, inHeader}
 use Rattle.build.specs.Plan.{headerBits, fragmentedFor, blocksFor, buildFault}
@@ -29,7 +30,6 @@ use Rattle.build.specs.Build.{
   lastWhen,
   builtBits,
   builtBytes,
-  builtAs,
   buildOf,
   outAs,
   outOf,
@@ -48,11 +48,14 @@ use Rattle.blocks.specs.declared.continuation.Continuation.{Continuation}
 use Rattle.blocks.proofs.FaultLaws.{chain-none}
 use Rattle.build.proofs.RangeLaws.{InRange, in-range}
 use Rattle.build.proofs.BuiltLaws.{header-bits}
+use Rattle.build.proofs.OutputLaws.{built-fault}
 use Rattle.build.proofs.JoinLaws.{built-reads, built-blocks, built-joined}
 use Rattle.store.specs.Store.{halves}
-use Rattle.history.specs.Line.{Line, start, _▸_}
+use Rattle.store.specs.declared.Raw.{Raw}
+use Rattle.history.specs.Line.{Line, start, _▸_, list}
 use Rattle.history.specs.Slots.{Header, Heard, fragmented, unfragmented, frag, end}
 use Rattle.history.specs.History.{join}
+use Rattle.history.proofs.OpenRun.{join-more}
 use Rattle.reports.specs.Lent.{for-unit, rawOf, unfaulted, headerHeard, heard}
 use Rattle.reports.specs.declared.unit.Settings.{Settings}
 use Rattle.history.specs.declared.Place.{Place}
@@ -70,7 +73,8 @@ module _ (f count : ℕ) (g : Fields) (m : List Bool) where
   abbrev back : List Part
   back =
       partsWith (2 ∷ addressWidth (g .destination .kind) ∷ 2 ∷ addressWidth (g .source .kind) ∷ 24 ∷ 5 ∷ g .width ∷ [])
-      (g .destination .kind ∷ g .destination .ssi ∷ g .source .kind ∷ g .source .ssi ∷ g .mni ∷ g .message ∷ g .elements ∷ [])
+      (g .destination .kind ∷ g .destination .ssi ∷ g .source .kind ∷ g .source .ssi ∷ g .mni ∷ g .message ∷ g .elements
+      ∷ [])
 
   abbrev uncounted : List Bool
   uncounted = pack front ++ ((false ∷ false ∷ []) ++ (pack back ++ roomBits room m))
@@ -87,7 +91,9 @@ module _ (f count : ℕ) (g : Fields) (m : List Bool) where
       let at : 12 + 4 * f ≡ length (pack front) + 0 = omega (arith, length-pack front) in
       ap₂ (λ (n : ℕ) (x : List Bool). over n z x) at split
       ∙ over-right 0 z (pack front) (bitsN 2 c ++ rest)
-      ∙ ap (λ (x : List Bool). pack front ++ x) (over-left 0 z (bitsN 2 c) rest (omega arith) ∙ ap (λ (x : List Bool). x ++ rest) (over-all z (bitsN 2 c) (sym lc)))
+      ∙ ap (λ (x : List Bool). pack front ++ x)
+      (over-left 0 z (bitsN 2 c) rest (omega arith)
+      ∙ ap (λ (x : List Bool). x ++ rest) (over-all z (bitsN 2 c) (sym lc)))
 
 -- ---- A header that reads well reads the same in a report of its own slot.
 
@@ -109,13 +115,15 @@ module _ (s h : List ℕ) (good : readHeader s h .fault ≡ 0) where
   unfolding readHeader
   read-as = ap (λ (n : ℕ). answered n (headerOf (syncOf (bitsOf s)) (bitsOf h))) no-fault
 
-  reported-reads : (frame slot : ℕ) → readHeader s h .sync .frame ≡ frame → readHeader s h .sync .slot + 1 ≡ slot → readReported frame slot s h ≡ readHeader s h
+  reported-reads : (frame slot : ℕ) → readHeader s h .sync .frame ≡ frame → readHeader s h .sync .slot + 1 ≡ slot
+      → readReported frame slot s h ≡ readHeader s h
   unfolding readReported
   reported-reads frame slot ef es =
       let y = syncOf (bitsOf s) in
       let ef′ = eq-eqb (y .frame) frame (ap (λ (r : read.Header). r .sync .frame) (sym read-as) ∙ ef) in
       let es′ = eq-eqb (y .slot + 1) slot (ap (λ (r : read.Header). r .sync .slot + 1) (sym read-as) ∙ es) in
-      ap (λ (n : ℕ). answered n (headerOf y (bitsOf h))) (between (syncChecks s h) (placeRules frame slot y) (bodyChecks (bitsOf h)) no-fault (rw (ef′, es′) refl))
+      ap (λ (n : ℕ). answered n (headerOf y (bitsOf h)))
+      (between (syncChecks s h) (placeRules frame slot y) (bodyChecks (bitsOf h)) no-fault (rw (ef′, es′) refl))
       ∙ sym read-as
 
   flag-read : fragmentedIn (bitsOf h) ≡ readHeader s h .fragmented
@@ -129,7 +137,9 @@ module _ (s h : List ℕ) (good : readHeader s h .fault ≡ 0) where
 
 -- one block on
 further : (i : ℕ) (b : List ℕ) → drop (34 * suc i) b ≡ drop (34 * i) (drop 34 b)
-further i b = let e : 34 * suc i ≡ 34 + 34 * i = omega arith in ap (λ (n : ℕ). drop n b) e ∙ sym (drop-drop (34 * i) 34 b)
+further i b =
+    let e : 34 * suc i ≡ 34 + 34 * i = omega arith in
+    ap (λ (n : ℕ). drop n b) e ∙ sym (drop-drop (34 * i) 34 b)
 
 abbrev nth : ℕ → List ℕ → List ℕ
 nth i b = take 34 (drop (34 * i) b)
@@ -157,29 +167,32 @@ abbrev pub messages-in : ℕ → List ℕ → Line (List Bool)
 messages-in zero b = start
 messages-in (suc i) b = messages-in i b ▸ message-in (nth i b)
 
-join-messages : (i n : ℕ) (x : List Bool) (b : List ℕ)
-    → join x (messages-in i b) ++ joined (blockBits (cutBlocks n (drop (34 * i) b))) ≡ x ++ joined (blockBits (cutBlocks (i + n) b))
-join-messages zero n x b = let j : n ≡ 0 + n = omega arith in ap (λ (j : ℕ). x ++ joined (blockBits (cutBlocks j b))) j
-join-messages (suc i) n x b =
-    let a = join x (messages-in i b) in
-    let j : i + suc n ≡ suc i + n = omega arith in
-    let w : 34 * suc i ≡ 34 * i + 34 = omega arith in
-    append-assoc a (message-in (nth i b)) (joined (blockBits (cutBlocks n (drop (34 * suc i) b))))
-    ∙ ap (λ (c : List ℕ). a ++ (message-in (nth i b) ++ joined (blockBits (cutBlocks n c)))) (ap (λ (z : ℕ). drop z b) w ∙ sym (drop-drop 34 (34 * i) b))
-    ∙ join-messages i (suc n) x b
-    ∙ ap (λ (j : ℕ). x ++ joined (blockBits (cutBlocks j b))) j
+-- one block more
+next-message : (i : ℕ) (b : List ℕ)
+    → blockBits (cutBlocks i b) ++ (message-in (nth i b) ∷ []) ≡ blockBits (cutBlocks (suc i) b)
+next-message zero b = refl
+next-message (suc i) b =
+    let m = blockBits (cutBlocks i (drop 34 b)) in
+    ap (_∷_ (message-in (take 34 b)))
+    (ap (λ (c : List ℕ). m ++ (message-in (take 34 c) ∷ [])) (further i b) ∙ next-message i (drop 34 b))
+
+-- they are those that are read, in order
+list-messages : (i : ℕ) (b : List ℕ) → list (messages-in i b) ≡ blockBits (cutBlocks i b)
+list-messages zero b = refl
+list-messages (suc i) b =
+    ap (λ (l : List (List Bool)). l ++ (message-in (nth i b) ∷ [])) (list-messages i b) ∙ next-message i b
 
 -- ---- A build.
 
-built-fault : (f n : ℕ) → builtAs f n .fault ≡ f
-built-fault zero n = refl
-built-fault (suc f) n = refl
-
 -- a message needs a block where it does not fit the header, and only there
-flag-when : (t : Bool) (h n : ℕ) → fitsHeader h n ≡ t → cond t true (leb h 120) ≡ true → let c = (n - cond t n (120 - h) + 263) / 264 in
+flag-when : (t : Bool) (h n : ℕ) → fitsHeader h n ≡ t → cond t true (leb h 120) ≡ true
+    → let c = (n - cond t n (120 - h) + 263) / 264 in
     (c ≡ 0 → cond {A = ℕ} t 0 1 ≡ 0) × (1 ≤ c → cond {A = ℕ} t 0 1 ≡ 1)
 flag-when true h n f e = (λ z. refl, λ z. absurd (omega arith))
-flag-when false h n f e = let a = leb-false (n + h) 124 f in let b = leb-true h 120 e in (λ z. absurd (omega arith), λ z. refl)
+flag-when false h n f e =
+    let a = leb-false (n + h) 124 f in
+    let b = leb-true h 120 e in
+    (λ z. absurd (omega arith), λ z. refl)
 
 module _ (m : Message) where
   abbrev flag : ℕ
@@ -205,7 +218,13 @@ module _ (m : Message) where
   -- The header as it is heard, by whatever build.
   abbrev pub meant : Settings → Header
   meant s =
-      let i = take inside (bits m) in record { raw = halves (uncounted flag (k m) (m .fields) i); for-us = for-unit s (m .fields); fields = m .fields; bits = i }
+      let i = take inside (bits m) in
+      record {
+        raw = halves (uncounted flag (k m) (m .fields) i);
+        for-us = for-unit s (m .fields);
+        fields = m .fields;
+        bits = i;
+      }
 
   module _ (b : Build m) where
     abbrev fault : ℕ
@@ -219,7 +238,9 @@ module _ (m : Message) where
     range = in-range (b .sync) (b .countdown) (m .fields) (m .n) (length (m .lent)) (length (b .out)) none
 
     all-bits : length (bits m) ≡ m .n
-    all-bits = let l = range .lent-bits in rw (length-take (m .n) (bitsOf (m .lent))) (omega (arith, length-bitsOf (m .lent)))
+    all-bits =
+        let l = range .elements .lent in
+        rw (length-take (m .n) (bitsOf (m .lent))) (omega (arith, length-bitsOf (m .lent)))
 
     whole : InRange (b .sync) (b .countdown) (m .fields) (length (bits m)) (length (m .lent)) (length (b .out))
     whole = rw all-bits range
@@ -239,14 +260,19 @@ module _ (m : Message) where
 
     header-read : readHeader (schS out) (schH out) ≡ back-as (b .sync) (b .countdown) (m .n)
     header-read =
-        ap (λ (o : List ℕ). readHeader (schS o) (schH o)) out-is ∙ built-reads (bits m) whole rest ∙ ap (back-as (b .sync) (b .countdown)) all-bits
+        ap (λ (o : List ℕ). readHeader (schS o) (schH o)) out-is ∙ built-reads (bits m) whole rest
+        ∙ ap (back-as (b .sync) (b .countdown)) all-bits
 
     good : readHeader (schS out) (schH out) .fault ≡ 0
     good = ap (λ (r : read.Header). r .fault) header-read
 
-    joined-is : joined (bitsIn (messageOf (bodyOf (bitsOf (schH out))) (bitsOf (schH out))) ∷ blockBits (schFs (k m) out)) ≡ bits m
+    abbrev message-of : List ℕ → List Bool
+    message-of h = bitsIn (messageOf (bodyOf (bitsOf h)) (bitsOf h))
+
+    joined-is : joined (message-of (schH out) ∷ blockBits (schFs (k m) out)) ≡ bits m
     joined-is =
-        ap₂ (λ (o : List ℕ) (n : ℕ). joined (bitsIn (messageOf (bodyOf (bitsOf (schH o))) (bitsOf (schH o))) ∷ blockBits (schFs (blocksFor (m .fields) n) o))) out-is (sym all-bits)
+        ap₂ (λ (o : List ℕ) (n : ℕ). joined (message-of (schH o) ∷ blockBits (schFs (blocksFor (m .fields) n) o)))
+        out-is (sym all-bits)
         ∙ built-joined (bits m) whole rest
 
     blocks-read : readAll (schFs (k m) out) ≡ expected (k m) (m .n - inside)
@@ -259,23 +285,29 @@ module _ (m : Message) where
     header-message : bitsIn (messageOf (bodyOf (bitsOf (schH out))) (bitsOf (schH out))) ≡ take inside (bits m)
     header-message =
         let x = bitsIn (messageOf (bodyOf (bitsOf (schH out))) (bitsOf (schH out))) in
-        sym (take-at x (joined (blockBits (schFs (k m) out))) inside (bits-read (schS out) (schH out) good ∙ ap (λ (r : read.Header). r .bits) header-read))
+        let e = bits-read (schS out) (schH out) good ∙ ap (λ (r : read.Header). r .bits) header-read in
+        sym (take-at x (joined (blockBits (schFs (k m) out))) inside e)
         ∙ ap (take inside) joined-is
 
     raw-is : rawOf (schH out) ≡ halves (uncounted flag (k m) (m .fields) (take inside (bits m)))
     raw-is =
-        let f : fragmentedIn (bitsOf (schH out)) ≡ flag = flag-read (schS out) (schH out) good ∙ ap (λ (r : read.Header). r .fragmented) header-read in
+        let f : fragmentedIn (bitsOf (schH out)) ≡ flag = flag-read (schS out) (schH out) good
+        ∙ ap (λ (r : read.Header). r .fragmented) header-read in
         let h : bitsOf (schH out) ≡ headerBlock flag (k m) (b .countdown) (m .fields) (take inside (bits m)) =
         ap (λ (o : List ℕ). bitsOf (schH o)) out-is
         ∙ header-bits (bits m) whole rest
-        ∙ ap (λ (n : ℕ). headerBlock (fragmentedFor (m .fields) n) (blocksFor (m .fields) n) (b .countdown) (m .fields) (take (inHeader (headerBits (m .fields)) n) (bits m))) all-bits in
-        ap halves (ap₂ (λ (n : ℕ) (x : List Bool). over (12 + 4 * n) (false ∷ false ∷ []) x) f h ∙ block-uncounted flag (k m) (m .fields) (take inside (bits m)) (b .countdown))
+        ∙ ap (λ (n : ℕ). headerBlock (fragmentedFor (m .fields) n) (blocksFor (m .fields) n) (b .countdown) (m .fields)
+        (take (inHeader (headerBits (m .fields)) n) (bits m))) all-bits in
+        ap halves
+        (ap₂ (λ (n : ℕ) (x : List Bool). over (12 + 4 * n) (false ∷ false ∷ []) x) f h
+        ∙ block-uncounted flag (k m) (m .fields) (take inside (bits m)) (b .countdown))
 
     out-length : 24 + 34 * k m ≤ length out
     out-length =
         let l : length out ≡ length bytes + length rest = ap length out-is ∙ length-append bytes rest in
         let n : length bytes ≡ 24 + 34 * k m =
-        length-bytesN (24 + 34 * blocksFor (m .fields) (length (bits m))) (builtBits (b .sync) (b .countdown) (m .fields) (bits m))
+        length-bytesN (24 + 34 * blocksFor (m .fields) (length (bits m)))
+        (builtBits (b .sync) (b .countdown) (m .fields) (bits m))
         ∙ ap (λ (n : ℕ). 24 + 34 * blocksFor (m .fields) n) all-bits in
         omega arith
 
@@ -291,30 +323,39 @@ module _ (m : Message) where
     pub length-block : (i : ℕ) → i < k m → length (block-in i out) ≡ 34
     length-block i u =
         let l = out-length in
-        rw (length-take 34 (drop (34 * i) (drop 24 out)), length-drop (34 * i) (drop 24 out), length-drop 24 out) (omega arith)
+        rw (length-take 34 (drop (34 * i) (drop 24 out)), length-drop (34 * i) (drop 24 out), length-drop 24 out)
+        (omega arith)
 
     module _ (s : Settings) where
       abbrev heard-by-flag : ℕ → Heard
-      heard-by-flag f = cond (eqb f 1) (fragmented (meant s) (k m - 1) (b .countdown)) (unfragmented (meant s) (b .countdown))
+      heard-by-flag f =
+          cond (eqb f 1) (fragmented (meant s) (k m - 1) (b .countdown)) (unfragmented (meant s) (b .countdown))
 
       header-heard : heard s (header-lent m b) ≡ heard-by-flag flag
       unfolding heard
       header-heard =
           let y = b .sync in
-          ap₂ (λ (x z : List ℕ). headerHeard s z (readReported (y .frame) (y .slot + 1) x z)) (take-at (schS out) (schH out) 8 length-s) (drop-at (schS out) (schH out) 8 length-s)
+          let f = ap (λ (r : read.Header). r .sync .frame) header-read in
+          let z = ap (λ (r : read.Header). r .sync .slot + 1) header-read in
+          let h : Raw → List Bool → Header =
+          λ r x. record { raw = r; for-us = for-unit s (m .fields); fields = m .fields; bits = x } in
+          ap₂ (λ (x z : List ℕ). headerHeard s z (readReported (y .frame) (y .slot + 1) x z))
+          (take-at (schS out) (schH out) 8 length-s) (drop-at (schS out) (schH out) 8 length-s)
           ∙ ap (headerHeard s (schH out))
-          (reported-reads (schS out) (schH out) good (y .frame) (y .slot + 1) (ap (λ (r : read.Header). r .sync .frame) header-read) (ap (λ (r : read.Header). r .sync .slot + 1) header-read)
-          ∙ header-read)
-          ∙ ap₂ (λ (r : List ℕ) (x : List Bool). let h : Header = record { raw = r; for-us = for-unit s (m .fields); fields = m .fields; bits = x } in
-          cond (eqb flag 1) (fragmented h (k m - 1) (b .countdown)) (unfragmented h (b .countdown))) raw-is header-message
+          (reported-reads (schS out) (schH out) good (y .frame) (y .slot + 1) f z ∙ header-read)
+          ∙ ap₂ (λ (r : Raw) (x : List Bool).
+          cond (eqb flag 1) (fragmented (h r x) (k m - 1) (b .countdown)) (unfragmented (h r x) (b .countdown)))
+          raw-is header-message
 
       flags : (k m ≡ 0 → flag ≡ 0) × (1 ≤ k m → flag ≡ 1)
-      flags = let h = headerBits (m .fields) in flag-when (fitsHeader h (m .n)) h (m .n) refl (range .header)
+      flags = let h = headerBits (m .fields) in flag-when (fitsHeader h (m .n)) h (m .n) refl (range .header .fits)
 
-      pub fragmented-heard : (more : ℕ) → k m ≡ suc more → heard s (header-lent m b) ≡ fragmented (meant s) more (b .countdown)
+      pub fragmented-heard : (more : ℕ) → k m ≡ suc more
+          → heard s (header-lent m b) ≡ fragmented (meant s) more (b .countdown)
       fragmented-heard more e =
           let j : k m - 1 ≡ more = omega arith in
-          header-heard ∙ ap heard-by-flag (flags .1 (omega arith)) ∙ ap (λ (n : ℕ). fragmented (meant s) n (b .countdown)) j
+          header-heard ∙ ap heard-by-flag (flags .1 (omega arith))
+          ∙ ap (λ (n : ℕ). fragmented (meant s) n (b .countdown)) j
 
       pub unfragmented-heard : k m ≡ 0 → heard s (header-lent m b) ≡ unfragmented (meant s) (b .countdown)
       unfragmented-heard e = header-heard ∙ ap heard-by-flag (flags .0 e)
@@ -329,18 +370,19 @@ module _ (m : Message) where
           ap₂ (λ (f l : ℕ). unfaulted f (cond (eqb l 1) (end x) (frag x))) (r .0) (r .1)
 
     -- The bits of the header and of all blocks, in order.
-    pub message-is : (more : ℕ) → k m ≡ suc more → join (take inside (bits m)) (messages-in more (drop 24 out)) ++ message-in (block-in more out) ≡ bits m
+    pub message-is : (more : ℕ) → k m ≡ suc more
+        → join (take inside (bits m)) (messages-in more (drop 24 out)) ++ message-in (block-in more out) ≡ bits m
     message-is more e =
         let t = take inside (bits m) in
         let c = drop 24 out in
-        let j : more + 1 ≡ k m = omega arith in
-        ap (λ (x : List Bool). join t (messages-in more c) ++ x) (sym (append-nil (message-in (block-in more out))))
-        ∙ join-messages more 1 t c
-        ∙ ap₂ (λ (x : List Bool) (n : ℕ). x ++ joined (blockBits (cutBlocks n c))) (sym header-message) j
+        sym (join-more t (messages-in more c) (message-in (block-in more out)))
+        ∙ ap₂ (λ (x : List Bool) (l : List (List Bool)). joined (x ∷ l)) (sym header-message)
+        (list-messages (suc more) c ∙ ap (λ (n : ℕ). blockBits (cutBlocks n c)) (sym e))
         ∙ joined-is
 
     pub message-inside : k m ≡ 0 → take inside (bits m) ≡ bits m
     message-inside e =
         sym (append-nil (take inside (bits m)))
-        ∙ ap₂ (λ (x : List Bool) (n : ℕ). x ++ joined (blockBits (cutBlocks n (drop 24 out)))) (sym header-message) (sym e)
+        ∙ ap₂ (λ (x : List Bool) (n : ℕ). x ++ joined (blockBits (cutBlocks n (drop 24 out)))) (sym header-message)
+        (sym e)
         ∙ joined-is

@@ -16,92 +16,45 @@ use Rattle.build.proofs.RangeLaws.{InRange, no-fault}
 use Rattle.history.specs.Line.{Line, start, _▸_}
 use Rattle.history.specs.Slots.{next, tick}
 use Rattle.history.specs.History.{final, InTurn, frames}
+use Rattle.history.proofs.Turns.{slot-after, next-range, frame-after, nth-slot, next-nth, gap, gap-is, first-next}
 use Rattle.reports.specs.Lent.{Lent, brought, heardSlot}
 use Rattle.reports.specs.declared.unit.Settings.{Settings}
 use Rattle.history.specs.declared.Place.{Place}
 use Rattle.receiver.specs.Reached.{reportOf, reports, Accepted}
-use Rattle.ends.specs.EndToEnd.{Message, k, Build, header-slot, header-lent, nothing-lent, due-slot, Sent, first, silence, repeat, block, headers}
-use Rattle.ends.proofs.SentLaws.{slot-after, frame-after}
+use Rattle.ends.specs.EndToEnd.{Message, k, Build, header-slot, header-lent, nothing-lent, due-slot, Sent, first}
+use Rattle.ends.specs.EndToEnd.{silence, repeat, block, headers}
 use Rattle.ends.proofs.HeardLaws.{range, length-header, length-block}
 
--- ---- Slots, counted: 36 of them, and then again.
-
-abbrev nth-slot : Place → ℕ
-nth-slot q = 2 * q .frame + cond (eqb (q .slot) 1) 0 1
-
--- The next slot has the next number.
-next-go : (y : ℕ) (b : Bool) → nth-slot (slot-after b y) % 36 ≡ (2 * y + cond b 0 1 + 1) % 36
-next-go y true = omega arith
-next-go y false = omega arith
-
-next-nth : (q : Place) → nth-slot (next q) % 36 ≡ (nth-slot q + 1) % 36
-next-nth q = next-go (q .frame) (eqb (q .slot) 1)
-
--- From slot v on so many slots lie before slot d.
-abbrev gap : ℕ → ℕ → ℕ
-gap v d = (d + 35 * (v + 1)) % 36
-
-gap-is : (v d : ℕ) → (v + 1 + gap v d) % 36 ≡ d % 36
-gap-is v d = omega arith
-
--- Remainders.
-suc-mod : (y d : ℕ) → 1 ≤ d → (y + 1) % 18 ≡ d → d ≡ y % 18 + 1
-suc-mod y d a e = omega arith
-
-double-mod : (y : ℕ) → (2 * y) % 36 ≡ 2 * (y % 18)
-double-mod y = omega arith
-
--- A slot 1 that comes next by its number comes next.
-frame-next : (y d : ℕ) → 1 ≤ d → d ≤ 17 → 1 ≤ y → y ≤ 18 → (2 * y + 1 + 1) % 36 ≡ (2 * d) % 36 → d ≡ y % 18 + 1
-frame-next y d a b c e h =
-    let w : 2 * (y + 1) ≡ 2 * y + 1 + 1 = omega arith in
-    let u : (y + 1) % 18 ≡ d % 18 = omega (arith, double-mod (y + 1), double-mod d, ap (λ (z : ℕ). z % 36) w) in
-    let v : d % 18 ≡ d = omega arith in
-    suc-mod y d a (u ∙ v)
-
-is-next-go : (y d : ℕ) (b : Bool) → 1 ≤ d → d ≤ 17 → 1 ≤ y → y ≤ 18 → (2 * y + cond b 0 1 + 1) % 36 ≡ (2 * d) % 36
-    → record { frame = d; slot = 1 } ≡ slot-after b y
-is-next-go y d true a b c e h = absurd (omega arith)
-is-next-go y d false a b c e h = ap (λ (z : ℕ). record { frame = z; slot = 1 }) (frame-next y d a b c e h)
-
-range-go : (y : ℕ) (b : Bool) → 1 ≤ y → y ≤ 18 → let q = slot-after b y in
-    (1 ≤ q .frame) × (q .frame ≤ 18)
-range-go y true l h = (l, h)
-range-go y false l h = (omega arith, omega arith)
-
-next-range : (p : Place) → 1 ≤ p .frame → p .frame ≤ 18 → (1 ≤ next p .frame) × (next p .frame ≤ 18)
-next-range p = range-go (p .frame) (eqb (p .slot) 1)
-
 -- The rules of a build in another slot, with another countdown.
-other-slot : {y : Sync} {c : ℕ} {g : Fields} {n bytes lent : ℕ} {x z f : ℕ} → InRange y c g n bytes lent → 1 ≤ x → x ≤ 18 → z ≤ 3 → f ≤ 3
+other-slot : {y : Sync} {c : ℕ} {g : Fields} {n bytes lent : ℕ} {x z f : ℕ} → InRange y c g n bytes lent → 1 ≤ x
+    → x ≤ 18 → z ≤ 3 → f ≤ 3
     → InRange (record { system = y .system; usage = y .usage; slot = z; frame = x }) f g n bytes lent
 other-slot r l h i j =
+    let k = r .numbers in
     record {
-      lowest = r .lowest;
-      highest = r .highest;
-      first-frame = l;
-      last-frame = h;
-      usage = r .usage;
-      slot = i;
-      countdown-small = j;
-      mni = r .mni;
-      message = r .message;
-      to-fits = r .to-fits;
-      from-fits = r .from-fits;
-      run = r .run;
-      lent-bits = r .lent-bits;
-      to = r .to;
-      from = r .from;
-      listed = r .listed;
+      numbers = record {
+        lowest = k .lowest;
+        highest = k .highest;
+        first-frame = l;
+        last-frame = h;
+        usage = k .usage;
+        slot = i;
+        countdown = j;
+        mni = k .mni;
+        message = k .message;
+      };
+      destination = r .destination;
+      source = r .source;
+      elements = r .elements;
       header = r .header;
-      count = r .count;
-      room = r .room;
+      blocks = r .blocks;
     }
 
-built-taken : (m : Message) (y : Sync) (c : ℕ) (out : List ℕ) → InRange y c (m .fields) (m .n) (length (m .lent)) (length out)
+built-taken : (m : Message) (y : Sync) (c : ℕ) (out : List ℕ)
+    → InRange y c (m .fields) (m .n) (length (m .lent)) (length out)
     → buildOf y c (m .fields) (m .n) (length (m .lent)) (length out) .fault ≡ 0
 unfolding buildOf
-built-taken m y c out r = ap (λ (f : ℕ). builtAs f (k m) .fault) (no-fault r)
+built-taken m y c out r = ap (λ (f : ℕ). builtAs f (k m) .fault) (no-fault _ _ _ _ _ _ r)
 
 module _ (s : Settings) (m : Message) (b : Build m) where
   abbrev last-slot : Line Lent → Place
@@ -115,20 +68,25 @@ module _ (s : Settings) (m : Message) (b : Build m) where
 
   frame-range : {ls : Line Lent} {i : ℕ} → Sent s m b ls i → (1 ≤ last-slot ls .frame) × (last-slot ls .frame ≤ 18)
   frame-range {ls} t =
-      let e = frame-after (header-slot m b) (reports s ls) (range m b .first-frame) (range m b .last-frame) (in-turn t) in (omega arith, omega arith)
+      let n = range m b .numbers in
+      let e = frame-after (header-slot m b) (reports s ls) (n .first-frame) (n .last-frame) (in-turn t) in
+      (omega arith, omega arith)
 
   -- Nothing in n slots, and then block i in its own.
-  to-block : (n : ℕ) (ls : Line Lent) (i : ℕ) → Sent s m b ls i → i < k m → n < 36 → (nth-slot (last-slot ls) + 1 + n) % 36 ≡ (2 * due-slot m b i .frame) % 36
+  to-block : (n : ℕ) (ls : Line Lent) (i : ℕ) → Sent s m b ls i → i < k m → n < 36
+      → (nth-slot (last-slot ls) + 1 + n) % 36 ≡ (2 * due-slot m b i .frame) % 36
       → (ls′ : Line Lent) × Sent s m b ls′ (suc i) × (headers ls′ ≡ headers ls)
   to-block zero ls i t u h e =
       let r = frame-range t in
       let d = due-range (b .sync .frame) (b .countdown) i in
       let q = last-slot ls in
-      (_, block t u (is-next-go (q .frame) (due-slot m b i .frame) (eqb (q .slot) 1) (d .0) (d .1) (r .0) (r .1) (omega arith)), refl)
+      (_, block t u (first-next q (due-slot m b i .frame) (d .0) (d .1) (r .0) (r .1) (omega arith)), refl)
   to-block (suc n) ls i t u h e =
       let q = next (last-slot ls) in
       let z = next-nth (last-slot ls) in
-      to-block n (ls ▸ nothing-lent q) i (silence q t refl (λ u′ c. let c′ : nth-slot q ≡ 2 * due-slot m b i .frame + 0 = ap nth-slot c in omega arith)) u (omega arith) (omega arith)
+      to-block n (ls ▸ nothing-lent q) i
+      (silence q t refl (λ u′ c. let c′ : nth-slot q ≡ 2 * due-slot m b i .frame + 0 = ap nth-slot c in omega arith)) u
+      (omega arith) (omega arith)
 
   -- So many blocks, and the headers before them.
   abbrev Laid : ℕ → ℕ → Type 0
@@ -158,17 +116,22 @@ module _ (s : Settings) (m : Message) (b : Build m) where
         sync = record { system = b .sync .system; usage = b .sync .usage; slot = z; frame = y };
         countdown = c;
         out = b .out;
-        taken = built-taken m (record { system = b .sync .system; usage = b .sync .usage; slot = z; frame = y }) c (b .out) (other-slot (range m b) l h i j);
+        taken =
+            built-taken m (record { system = b .sync .system; usage = b .sync .usage; slot = z; frame = y }) c (b .out)
+            (other-slot (range m b) l h i j);
       }
 
-  another : (ls : Line Lent) (y z : ℕ) → Sent s m b ls 0 → let q : Place = record { frame = y; slot = z + 1 } in q ≡ next (last-slot ls) → z ≤ 3
-      → tick q (frames (reports s ls)) ≤ b .countdown → (l : Lent) × Sent s m b (ls ▸ l) 0 × (l .kind ≡ 2) × (reportOf s l .place ≡ q)
+  another : (ls : Line Lent) (y z : ℕ) → Sent s m b ls 0 → let q : Place = record { frame = y; slot = z + 1 } in
+      q ≡ next (last-slot ls) → z ≤ 3
+      → tick q (frames (reports s ls)) ≤ b .countdown
+      → (l : Lent) × Sent s m b (ls ▸ l) 0 × (l .kind ≡ 2) × (reportOf s l .place ≡ q)
   another ls y z t e i u =
       let r = frame-range t in
       let n = tick (record { frame = y; slot = z + 1 }) (frames (reports s ls)) in
-      let f = range m b .countdown-small in
+      let f = range m b .numbers .countdown in
       let h = next-range (last-slot ls) (r .0) (r .1) in
-      let b′ = again-build y z (b .countdown - n) (rw (ap (λ (q : Place). q .frame) e) (h .0)) (rw (ap (λ (q : Place). q .frame) e) (h .1)) i (omega arith) in
+      let b′ = again-build y z (b .countdown - n) (rw (ap (λ (q : Place). q .frame) e) (h .0))
+      (rw (ap (λ (q : Place). q .frame) e) (h .1)) i (omega arith) in
       (header-lent m b′, repeat b′ t e (omega arith), refl, refl)
 
   -- So far the header is in n slots, with so many frames gone by, and was last in a slot 1 or 3.
@@ -179,8 +142,10 @@ module _ (s : Settings) (m : Message) (b : Build m) where
     frames-gone : frames (reports s heard) ≡ gone
     last : last-slot heard .slot ≡ slot
 
-  headed-on : {n gone slot : ℕ} (z : ℕ) (r : Headed n gone slot) (y : ℕ) → record { frame = y; slot = z + 1 } ≡ next (last-slot (r .heard)) → z ≤ 3
-      → tick (record { frame = y; slot = z + 1 }) gone ≤ b .countdown → Headed (suc n) (tick (record { frame = y; slot = z + 1 }) gone) (z + 1)
+  headed-on : {n gone slot : ℕ} (z : ℕ) (r : Headed n gone slot) (y : ℕ)
+      → record { frame = y; slot = z + 1 } ≡ next (last-slot (r .heard)) → z ≤ 3
+      → tick (record { frame = y; slot = z + 1 }) gone ≤ b .countdown
+      → Headed (suc n) (tick (record { frame = y; slot = z + 1 }) gone) (z + 1)
   headed-on {n} {gone} z r y e i u =
       let q : Place = record { frame = y; slot = z + 1 } in
       let g = ap (tick q) (r .frames-gone) in
@@ -204,7 +169,9 @@ module _ (s : Settings) (m : Message) (b : Build m) where
   on-first r = let p = last-slot (r .heard) in headed-on 0 r (p .frame % 18 + 1) (next-at p 3 (r .last)) (omega arith)
 
   headed : b .sync .slot ≡ 0 → (t : ℕ) → t ≤ b .countdown → Headed (2 * t + 1) t 3
-  headed e zero h = on-third (record { heard = start; sent = first; number = refl; frames-gone = refl; last = ap (λ (z : ℕ). z + 1) e }) h
+  headed e zero h =
+      on-third
+      (record { heard = start; sent = first; number = refl; frames-gone = refl; last = ap (λ (z : ℕ). z + 1) e }) h
   headed e (suc t) h =
       let n : suc (suc (2 * t + 1)) ≡ 2 * suc t + 1 = omega arith in
       subst (λ (j : ℕ). Headed j (suc t) 3) n (on-third (on-first (headed e t (omega arith)) h) h)
@@ -214,7 +181,8 @@ module _ (s : Settings) (m : Message) (b : Build m) where
 
 -- ---- Reports that are not refused.
 
-accept : (l : Lent) → 1 ≤ l .frame → l .frame ≤ 18 → heardSlot (l .slot) ≡ true → brought (l .kind) (length (l .blocks)) ≡ true → Accepted l
+accept : (l : Lent) → 1 ≤ l .frame → l .frame ≤ 18 → heardSlot (l .slot) ≡ true
+    → brought (l .kind) (length (l .blocks)) ≡ true → Accepted l
 accept l a b c d = rw (le-leb 1 (l .frame) a, le-leb (l .frame) 18 b, c, d) refl
 
 slot-heard : (y : ℕ) (b : Bool) → heardSlot (slot-after b y .slot) ≡ true
@@ -241,8 +209,9 @@ module _ (s : Settings) (m : Message) (b : Build m) where
       brings (repeat b′ t g c) = header-brought m b′
       brings (block {i = i} t u g) = ap (brought 3) (length-block m b i u)
 
-pub header-accepted : (m : Message) (b : Build m) → (b .sync .slot ≡ 0) ⊎ (b .sync .slot ≡ 2) → Accepted (header-lent m b)
+pub header-accepted : (m : Message) (b : Build m) → (b .sync .slot ≡ 0) ⊎ (b .sync .slot ≡ 2)
+    → Accepted (header-lent m b)
 header-accepted m b h =
-    accept (header-lent m b) (range m b .first-frame) (range m b .last-frame)
+    accept (header-lent m b) (range m b .numbers .first-frame) (range m b .numbers .last-frame)
     (⊎-elim (λ (e : b .sync .slot ≡ 0). rw e refl) (λ (e : b .sync .slot ≡ 2). rw e refl) h)
     (header-brought m b)

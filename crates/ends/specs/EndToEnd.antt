@@ -1,5 +1,6 @@
--- From `build` to hand-over. The blocks of a build that was not refused, reported in the slots of its layout with nothing in the other slots, are handed
--- over by a receiver that they are for as exactly that message, exactly once, whatever the receiver had heard before.
+-- From `build` to hand-over. The blocks of a build that was not refused, reported in the slots of its layout with
+-- nothing in the other slots, are handed over by a receiver that they are for as exactly that message, exactly once,
+-- whatever the receiver had heard before.
 use Prim.Native.Nat.{ℕ, suc, _+_, _*_, _<_}
 use mathlib.Core.Path.{_≡_}
 use mathlib.Core.Bool.{Bool, true, false, cond}
@@ -58,7 +59,8 @@ header-slot m b = record { frame = b .sync .frame; slot = b .sync .slot + 1 }
 
 abbrev pub header-lent : (m : Message) → Build m → Lent
 header-lent m b =
-    let out = output m b in record { frame = b .sync .frame; slot = b .sync .slot + 1; kind = 2; blocks = schS out ++ schH out }
+    let out = output m b in
+    record { frame = b .sync .frame; slot = b .sync .slot + 1; kind = 2; blocks = schS out ++ schH out }
 
 abbrev pub block-lent : (m : Message) → Build m → ℕ → Place → Lent
 block-lent m b i q = record { frame = q .frame; slot = q .slot; kind = 3; blocks = block-in i (output m b) }
@@ -70,15 +72,19 @@ nothing-lent q = record { frame = q .frame; slot = q .slot; kind = 1; blocks = [
 abbrev pub due-slot : (m : Message) → Build m → ℕ → Place
 due-slot m b i = due (b .sync .frame) (b .countdown) i
 
--- The reports after that of the header of b, slot by slot, and the number of blocks among them: a repeat of the header, before the first block, from a build
--- of its own, its countdown less by the frames gone by; each block in its due slot; nothing in the other slots.
+-- The reports after that of the header of b, slot by slot, and the number of blocks among them: a repeat of the header,
+-- before the first block, from a build of its own, its countdown less by the frames gone by; each block in its due
+-- slot; nothing in the other slots.
 pub data Sent (s : Settings) (m : Message) (b : Build m) : Line Lent → ℕ → Type 0 where
   first : Sent s m b start 0
-  silence : {ls : Line Lent} {i : ℕ} (q : Place) → Sent s m b ls i → q ≡ next (final (header-slot m b) (reports s ls)) → (i < k m → q ≡ due-slot m b i → ⊥)
+  silence : {ls : Line Lent} {i : ℕ} (q : Place) → Sent s m b ls i → q ≡ next (final (header-slot m b) (reports s ls))
+      → (i < k m → q ≡ due-slot m b i → ⊥)
       → Sent s m b (ls ▸ nothing-lent q) i
-  repeat : {ls : Line Lent} (b′ : Build m) → Sent s m b ls 0 → header-slot m b′ ≡ next (final (header-slot m b) (reports s ls))
+  repeat : {ls : Line Lent} (b′ : Build m) → Sent s m b ls 0
+      → header-slot m b′ ≡ next (final (header-slot m b) (reports s ls))
       → b .countdown ≡ b′ .countdown + frames (reports s (ls ▸ header-lent m b′)) → Sent s m b (ls ▸ header-lent m b′) 0
-  block : {ls : Line Lent} {i : ℕ} → Sent s m b ls i → i < k m → due-slot m b i ≡ next (final (header-slot m b) (reports s ls))
+  block : {ls : Line Lent} {i : ℕ} → Sent s m b ls i → i < k m
+      → due-slot m b i ≡ next (final (header-slot m b) (reports s ls))
       → Sent s m b (ls ▸ block-lent m b i (due-slot m b i)) (suc i)
 
 -- ---- What is handed over.
@@ -116,22 +122,29 @@ on-its-way header kind = cond (eqb kind 2) header (cond (eqb kind 3) kept quiet)
 
 -- What the receiver does with the message, where hs was heard before.
 pub record HandsOver (s : Settings) (m : Message) (b : Build m) (hs : History) : Type 0 where
-  -- All of it reported: exactly that message is handed over, exactly once. One that goes into the header is not where it is a copy of what was heard before.
+  -- All of it reported: exactly that message is handed over, exactly once. One that goes into the header is not where
+  -- it is a copy of what was heard before.
   pub once : (k m ≡ 0 → Copies hs (header-report s m b) → ⊥) → {ls : Line Lent} → Sent s m b ls (k m)
       → handed hs (all-reports s m b ls) ≡ start ▸ record { fields = m .fields; bits = bits m }
-  pub copied : k m ≡ 0 → Copies hs (header-report s m b) → {ls : Line Lent} → Sent s m b ls (k m) → handed hs (all-reports s m b ls) ≡ start
+  pub copied : k m ≡ 0 → Copies hs (header-report s m b) → {ls : Line Lent} → Sent s m b ls (k m)
+      → handed hs (all-reports s m b ls) ≡ start
   -- One that goes into the header is handed over at the first of its reports, and each repeat is a copy.
-  pub at-once : k m ≡ 0 → (Copies hs (header-report s m b) → ⊥) → outcome-at hs (header-report s m b) ≡ single (m .fields) (bits m)
-  pub repeated : k m ≡ 0 → {ls : Line Lent} {l : Lent} {i : ℕ} → Sent s m b (ls ▸ l) i → outcome-at (so-far s m b hs ls) (reportOf s l) ≡ on-its-way copy (l .kind)
+  pub at-once : k m ≡ 0 → (Copies hs (header-report s m b) → ⊥)
+      → outcome-at hs (header-report s m b) ≡ single (m .fields) (bits m)
+  pub repeated : k m ≡ 0 → {ls : Line Lent} {l : Lent} {i : ℕ} → Sent s m b (ls ▸ l) i
+      → outcome-at (so-far s m b hs ls) (reportOf s l) ≡ on-its-way copy (l .kind)
   -- One with blocks: the header opens an assembly; nothing is handed over before the last block.
   pub opens : 0 < k m → outcome-at hs (header-report s m b) ≡ opened
   pub not-before : {ls : Line Lent} {i : ℕ} → Sent s m b ls i → i < k m → handed hs (all-reports s m b ls) ≡ start
   -- Each report on the way opens, for a repeat, or keeps its block, and drops nothing.
   pub undropped : {ls : Line Lent} {l : Lent} {i : ℕ} → Sent s m b (ls ▸ l) i → i < k m
-      → answer (after (so-far s m b hs ls)) (reportOf s l) ≡ record { outcome = on-its-way opened (l .kind); dropped = false }
+      → answer (after (so-far s m b hs ls)) (reportOf s l)
+      ≡ record { outcome = on-its-way opened (l .kind); dropped = false }
   -- The last block, in its due slot, hands the message over, and drops nothing.
-  pub at-last : {ls : Line Lent} {i : ℕ} → Sent s m b ls i → suc i ≡ k m → due-slot m b i ≡ next (final (header-slot m b) (reports s ls))
-      → answer (after (so-far s m b hs ls)) (reportOf s (block-lent m b i (due-slot m b i))) ≡ record { outcome = joined (m .fields) (bits m); dropped = false }
+  pub at-last : {ls : Line Lent} {i : ℕ} → Sent s m b ls i → suc i ≡ k m
+      → due-slot m b i ≡ next (final (header-slot m b) (reports s ls))
+      → answer (after (so-far s m b hs ls)) (reportOf s (block-lent m b i (due-slot m b i)))
+      ≡ record { outcome = joined (m .fields) (bits m); dropped = false }
 
 -- ---- There are such reports.
 
@@ -142,10 +155,15 @@ headers (ls ▸ l) = cond (eqb (l .kind) 2) (suc (headers ls)) (headers ls)
 
 pub record EndToEnd : Type 0 where
   -- A message for this unit, whatever was heard before.
-  pub hands-over : (s : Settings) (m : Message) (b : Build m) (hs : History) → for-unit s (m .fields) ≡ true → HandsOver s m b hs
-  -- Every build can be sent so; one for slot 1 also with the header in both slots of its frame and of each of the F frames after it.
+  pub hands-over : (s : Settings) (m : Message) (b : Build m) (hs : History)
+      → for-unit s (m .fields) ≡ true → HandsOver s m b hs
+  -- Every build can be sent so; one for slot 1 also with the header in both slots of its frame and of each of the F
+  -- frames after it.
   pub possible : (s : Settings) (m : Message) (b : Build m) → (ls : Line Lent) × Sent s m b ls (k m)
-  pub in-full : (s : Settings) (m : Message) (b : Build m) → b .sync .slot ≡ 0 → (ls : Line Lent) × Sent s m b ls (k m) × (headers ls ≡ 2 * b .countdown + 1)
+  pub in-full : (s : Settings) (m : Message) (b : Build m) → b .sync .slot ≡ 0
+      → (ls : Line Lent) × Sent s m b ls (k m) × (headers ls ≡ 2 * b .countdown + 1)
   -- None of its reports is refused.
-  pub accepted : (s : Settings) (m : Message) (b : Build m) {ls : Line Lent} {l : Lent} {i : ℕ} → Sent s m b (ls ▸ l) i → Accepted l
-  pub header-accepted : (m : Message) (b : Build m) → (b .sync .slot ≡ 0) ⊎ (b .sync .slot ≡ 2) → Accepted (header-lent m b)
+  pub accepted : (s : Settings) (m : Message) (b : Build m) {ls : Line Lent} {l : Lent} {i : ℕ} → Sent s m b (ls ▸ l) i
+      → Accepted l
+  pub header-accepted : (m : Message) (b : Build m) → (b .sync .slot ≡ 0) ⊎ (b .sync .slot ≡ 2)
+      → Accepted (header-lent m b)

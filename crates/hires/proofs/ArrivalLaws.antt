@@ -80,7 +80,7 @@ module _ (h : Hire) where
 
   -- the lower layer's source has 24 bits
   source-fits : ends.Build (message h) → h .fields .source .ssi < 2 ^ 24
-  source-fits b = fits-in 24 (range (message h) b .from-fits) (addressWidth-le (h .fields .source .kind))
+  source-fits b = fits-in 24 (range (message h) b .source .ssi) (addressWidth-le (h .fields .source .kind))
 
   read-sent : ends.Build (message h) → readIn sent ≡ readBack h
   read-sent b = rw (lt-ltb (h .fields .source .ssi) (2 ^ 24) (source-fits b)) reads-back

@@ -31,10 +31,10 @@ own-bytes m =
     let n = length (messageBytes m) in
     rw (drop-of-length-le {A = ℕ} [] {i = n} (omega arith)) (append-nil (messageBytes m))
 
-pub own-bits : (m : List Bool) → sduBits (length m) (messageBytes m) ≡ m
+own-bits : (m : List Bool) → sduBits (length m) (messageBytes m) ≡ m
 own-bits m = rw (own-bytes m) at (handed-bits m [])
 
-pub own-lent : (m : List Bool) → length m ≤ 8 * length (messageBytes m)
+own-lent : (m : List Bool) → length m ≤ 8 * length (messageBytes m)
 own-lent m = rw (own-bytes m) at (handed-lent m [])
 
 -- ---- what is read

@@ -1,8 +1,7 @@
 -- A hire for another unit never goes to `book`. Assumes nothing.
-use mathlib.Core.Path.{_≡_, refl, ap, ap₂, _∙_, subst⁻¹}
+use mathlib.Core.Path.{_≡_, refl, sym, ap, ap₂, _∙_, subst⁻¹}
 use mathlib.Core.Bool.{Bool, true, false, cond}
 use mathlib.Core.List.{List}
-use mathlib.Core.Option.{Option, none}
 use Prim.Native.Nat.{ℕ, zero, suc, _-_, _≤_}
 use native.Mathlib.Omega.{arith}
 use lib.Dec.{eqb}
@@ -10,11 +9,12 @@ use Rattle.bits.specs.Bits.{bitsOf}
 use Rattle.blocks.specs.Sdu.{bitsIn}
 use Rattle.blocks.specs.Continuation.{blockMessage, readContinuation}
 use Rattle.history.specs.Line.{Line, start, _▸_, _⧺_, each}
-use Rattle.history.specs.Slots.{Header, Heard, nothing, fragmented, unfragmented, frag, end, Report}
+use Rattle.history.specs.Slots.{Heard, header-in, frag, end, Report}
 use Rattle.history.specs.History.{History, NotForUs}
-use Rattle.history.specs.Step.{Open, Near, quiet, in-turn, still, still-near, assembling, telling}
-use Rattle.history.specs.Step.{step, answer, after, outcome-at}
-use Rattle.history.proofs.OpenRun.{At}
+use Rattle.history.specs.Step.{Assembly, no-run, no-assembly, is-due, is-last, quiet, outcome-at}
+use Rattle.history.proofs.Verdicts.{absurd-bool, unfit, comes, opens-none, rest-at, lost-at}
+use Rattle.history.proofs.OpenRun.{At, none-left, known-at, drops-at}
+use Rattle.history.proofs.Outcomes.{quiet-at}
 use Rattle.reports.specs.Lent.{Lent, for-unit, unfaulted, heard}
 use Rattle.reports.specs.declared.unit.Settings.{Settings}
 use Rattle.history.specs.declared.Place.{Place}
@@ -27,6 +27,7 @@ use Rattle.ends.specs.EndToEnd.{with-outcome, handed, header-report, all-report
 use Rattle.ends.proofs.HeardLaws.{meant, fragmented-heard, unfragmented-heard}
 use Rattle.ends.proofs.DeliveredHolds.{reports-append}
 use Rattle.ends.proofs.EndToEndHolds.{silent}
+use Rattle.ends.proofs.SentLaws.{hushed}
 use Rattle.hires.specs.Program.{Step, accepted, calls, Program, messageIn}
 use Rattle.hires.specs.June.{Hire, message}
 use Rattle.hires.proofs.ProgramLaws.{handed-on}
@@ -34,81 +35,40 @@ use Rattle.hires.proofs.ProgramLaws.{handed-on}
 -- ---- the receiver
 
 -- where no assembly is open, what is not for this unit opens none and hands nothing over
-still-none : (t : Bool) (q : Place) → still t q none ≡ none
-still-none true q = refl
-still-none false q = refl
-
-not-opened : (q : Place) (x : Heard) → NotForUs x → assembling none q x ≡ none
-not-opened q nothing n = refl
-not-opened q (fragmented h more f) n = rw n refl
-not-opened q (unfragmented h f) n = refl
-not-opened q (frag b) n = refl
-not-opened q (end b) n = refl
-
-not-told : (m : Option Near) (q : Place) (x : Heard) → NotForUs x → telling none m q x ≡ quiet
-not-told m q nothing n = refl
-not-told m q (fragmented h more f) n = rw n refl
-not-told m q (unfragmented h f) n = rw n refl
-not-told m q (frag b) n = refl
-not-told m q (end b) n = refl
-
-stays-none : (hs : History) (r : Report) → NotForUs (r .heard) → At hs none → At (hs ▸ r) none
-unfolding after step
+stays-none : (hs : History) (r : Report) → NotForUs (r .heard) → At hs no-assembly → At (hs ▸ r) no-assembly
 stays-none hs r n a =
     let q = r .place in
-    ap (λ (o : Option Open). assembling (still (in-turn (after hs .last) q) q o) q (r .heard)) a
-    ∙ ap (λ (o : Option Open). assembling o q (r .heard)) (still-none (in-turn (after hs .last) q) q)
-    ∙ not-opened q (r .heard) n
+    known-at hs r no-assembly (none-left hs q a) (r .heard) refl
+    ∙ opens-none (comes no-run (rest-at hs q .near) q (lost-at hs q) (r .heard)) n
 
-none-told : (hs : History) (r : Report) → NotForUs (r .heard) → At hs none → outcome-at hs r ≡ quiet
-unfolding answer
+none-told : (hs : History) (r : Report) → NotForUs (r .heard) → At hs no-assembly → outcome-at hs r ≡ quiet
 none-told hs r n a =
-    let q = r .place in
-    let m = still-near (in-turn (after hs .last) q) q (after hs .near) in
-    ap (λ (o : Option Open). telling (still (in-turn (after hs .last) q) q o) m q (r .heard)) a
-    ∙ ap (λ (o : Option Open). telling o m q (r .heard)) (still-none (in-turn (after hs .last) q) q)
-    ∙ not-told m q (r .heard) n
-
--- a header that is not for this unit, and nothing heard, hand nothing over, whatever is open
-header-told : (hs : History) (r : Report) (h : Header) (more f : ℕ) → h .for-us ≡ false
-    → (r .heard ≡ fragmented h more f) → outcome-at hs r ≡ quiet
-unfolding answer
-header-told hs r h more f n e = rw (e, n) refl
-
-single-told : (hs : History) (r : Report) (h : Header) (f : ℕ) → h .for-us ≡ false → r .heard ≡ unfragmented h f
-    → outcome-at hs r ≡ quiet
-unfolding answer
-single-told hs r h f n e = rw (e, n) refl
-
-hushed : (hs : History) (r : Report) → r .heard ≡ nothing → outcome-at hs r ≡ quiet
-unfolding answer
-hushed hs r e = rw e refl
-
--- it drops what is open
-drops : (hs : History) (r : Report) (h : Header) (more f : ℕ) → h .for-us ≡ false → r .heard ≡ fragmented h more f
-    → At (hs ▸ r) none
-unfolding after step
-drops hs r h more f n e = rw (e, n) refl
+    let e = ap (λ (a : Assembly). is-due (a .run) (r .place)) (none-left hs (r .place) a) in
+    quiet-at hs r n (λ d. absurd-bool (sym e ∙ d))
 
 -- ---- what is sent to another unit
 
 continues : (f : ℕ) (t : Bool) (x : List Bool) → NotForUs (unfaulted f (cond t (end x) (frag x)))
-continues zero true x = tt
-continues zero false x = tt
-continues (suc f) t x = tt
+continues zero true x = refl
+continues zero false x = refl
+continues (suc f) t x = refl
 
 module _ (s : Settings) (m : Message) (w : for-unit s (m .fields) ≡ false) where
-  -- the header, by any build
-  header-quiet : (hs : History) (b : Build m) (j : ℕ) → k m ≡ j → outcome-at hs (header-report s m b) ≡ quiet
-  header-quiet hs b zero e =
-      single-told hs (header-report s m b) (meant m s) (b .countdown) w (unfragmented-heard m b s e)
-  header-quiet hs b (suc more) e =
-      header-told hs (header-report s m b) (meant m s) more (b .countdown) w (fragmented-heard m b s more e)
+  -- the header, by any build, is not for this unit and is no block
+  header-not : (b : Build m) (j : ℕ) → k m ≡ j
+      → NotForUs (heard s (header-lent m b)) × ((last : Bool) → unfit last (heard s (header-lent m b)) ≡ true)
+  header-not b zero e =
+      let x = unfragmented-heard m b s e in
+      (subst⁻¹ NotForUs x w, λ last. ap (unfit last) x)
+  header-not b (suc more) e =
+      let x = fragmented-heard m b s more e in
+      (subst⁻¹ NotForUs x w, λ last. ap (unfit last) x)
 
-  header-drops : (hs : History) (b : Build m) → 1 ≤ k m → At (hs ▸ header-report s m b) none
-  header-drops hs b l =
-      let more = k m - 1 in
-      drops hs (header-report s m b) (meant m s) more (b .countdown) w (fragmented-heard m b s more (omega arith))
+  header-quiet : (hs : History) (b : Build m) → outcome-at hs (header-report s m b) ≡ quiet
+  header-quiet hs b =
+      let r = header-report s m b in
+      let (n, u) = header-not b (k m) refl in
+      quiet-at hs r n (λ d. u (is-last (rest-at hs (r .place) .assembly .run)))
 
   module _ (b : Build m) (hs : History) where
     block-not : (i : ℕ) (q : Place) → NotForUs (heard s (block-lent m b i q))
@@ -118,20 +78,16 @@ module _ (s : Settings) (m : Message) (w : for-unit s (m .fields) ≡ false) whe
         let r = readContinuation x in
         continues (r .fault) (eqb (r .last) 1) (bitsIn (blockMessage (bitsOf x)))
 
-    header-not : (b : Build m) → NotForUs (heard s (header-lent m b))
-    header-not b = when (k m) refl
-      where
-        when : (j : ℕ) → k m ≡ j → NotForUs (heard s (header-lent m b))
-        when zero e = subst⁻¹ NotForUs (unfragmented-heard m b s e) w
-        when (suc more) e = subst⁻¹ NotForUs (fragmented-heard m b s more e) w
-
     -- a fragmented one leaves none open
-    none-open : {ls : Line Lent} {i : ℕ} → Sent s m b ls i → 1 ≤ k m → At (so-far s m b hs ls) none
-    none-open sent.first l = header-drops hs b l
+    none-open : {ls : Line Lent} {i : ℕ} → Sent s m b ls i → 1 ≤ k m → At (so-far s m b hs ls) no-assembly
+    none-open sent.first l =
+        let more = k m - 1 in
+        drops-at hs (header-report s m b) (meant m s) more (b .countdown) (fragmented-heard m b s more (omega arith)) w
     none-open (sent.silence {ls} q t g d) l =
-        stays-none (so-far s m b hs ls) (reportOf s (nothing-lent q)) (subst⁻¹ NotForUs (silent s q) tt) (none-open t l)
+        stays-none (so-far s m b hs ls) (reportOf s (nothing-lent q))
+        (ap (λ (x : Heard). header-in x .for-us) (silent s q)) (none-open t l)
     none-open (sent.repeat {ls} b′ t g c) l =
-        stays-none (so-far s m b hs ls) (header-report s m b′) (header-not b′) (none-open t l)
+        stays-none (so-far s m b hs ls) (header-report s m b′) (header-not b′ (k m) refl .0) (none-open t l)
     none-open (sent.block {ls} {i} t u g) l =
         let q = due-slot m b i in
         stays-none (so-far s m b hs ls) (reportOf s (block-lent m b i q)) (block-not i q) (none-open t l)
@@ -146,12 +102,12 @@ module _ (s : Settings) (m : Message) (w : for-unit s (m .fields) ≡ false) whe
         ∙ ap (with-outcome start) o
 
     none-handed : {ls : Line Lent} {i : ℕ} → Sent s m b ls i → handed hs (all-reports s m b ls) ≡ start
-    none-handed sent.first = ap (with-outcome start) (header-quiet hs b (k m) refl)
+    none-handed sent.first = ap (with-outcome start) (header-quiet hs b)
     none-handed (sent.silence {ls} q t g d) =
         let l = nothing-lent q in
         no-more ls l (none-handed t) (hushed (so-far s m b hs ls) (reportOf s l) (silent s q))
     none-handed (sent.repeat {ls} b′ t g c) =
-        no-more ls (header-lent m b′) (none-handed t) (header-quiet (so-far s m b hs ls) b′ (k m) refl)
+        no-more ls (header-lent m b′) (none-handed t) (header-quiet (so-far s m b hs ls) b′)
     none-handed (sent.block {ls} {i} t u g) =
         let q = due-slot m b i in
         no-more ls (block-lent m b i q) (none-handed t)

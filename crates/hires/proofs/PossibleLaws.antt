@@ -18,11 +18,10 @@ use Rattle.history.proofs.OpenRun.{and-true}
 use Rattle.reports.specs.Lent.{Lent, reportRules, for-unit}
 use Rattle.reports.specs.Units.{settingsFit}
 use Rattle.reports.specs.declared.unit.Settings.{Settings}
-use Rattle.receiver.specs.Held.{freshOf}
-use Rattle.receiver.specs.Taken.{repliedBy, repliedOver}
+use Rattle.receiver.specs.View.{freshOf}
 use Rattle.receiver.specs.Reached.{reports, refusedWith, Accepted}
 use Rattle.receiver.specs.declared.Receiver.{Receiver}
-use Rattle.receiver.proofs.HearLaws.{replied}
+use Rattle.receiver.proofs.ReplyLaws.{replies}
 use Rattle.demands.proofs.Demand3Holds.{leads}
 use Rattle.transport.specs.Layouts.{ackOf, at}
 use Rattle.transport.specs.Elements.{shapeOf}
@@ -120,14 +119,8 @@ module _ {s : Settings} {xs : Line Step} {ls : Line Lent} (h : Heard s xs ls) (l
   hearing-one : Hearing
   hearing-one =
       let k = leads (hears-calls (h .program)) in
-      record {
-        before = before;
-        report = l;
-        reply = repliedBy before f (l .frame) (l .slot) (l .kind) (l .blocks);
-        old = buffer;
-        new = repliedOver before f (l .frame) (l .slot) (l .kind) (l .blocks) buffer;
-        hears = replied before (record { settings = s; heard = accepted so-far; leads = k }) l buffer refl refl refl .1;
-      }
+      let r = replies (record { settings = s; heard = accepted so-far; leads = k }) l buffer in
+      record { before = before; report = l; reply = r .reply; old = buffer; new = r .new; hears = r .hears }
 
   -- the message that it may hand over goes to `book`
   record Goes : Type 0 where

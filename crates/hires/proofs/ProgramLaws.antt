@@ -17,7 +17,7 @@ use Rattle.history.specs.Step.{Outcome, number, message-of, fields-of, outcome-
 use Rattle.history.proofs.Theorems.{theorem-told-only}
 use Rattle.reports.specs.Lent.{Lent}
 use Rattle.reports.specs.declared.unit.Settings.{Settings}
-use Rattle.receiver.specs.Held.{freshOf}
+use Rattle.receiver.specs.View.{freshOf}
 use Rattle.receiver.specs.Reached.{reportOf, reports, refusedWith, Leads, Answered}
 use Rattle.receiver.specs.declared.Receiver.{Receiver}
 use Rattle.receiver.specs.declared.Fresh.{Fresh}
@@ -73,7 +73,7 @@ accepted-more : (t : Bool) (l : Lent) (xs ys zs : Line Lent) → xs ≡ ys ⧺ z
 accepted-more true l xs ys zs e = ap (λ (ls : Line Lent). ls ▸ l) e
 accepted-more false l xs ys zs e = e
 
-pub accepted-append : (xs ys : Line Step) → accepted (xs ⧺ ys) ≡ accepted xs ⧺ accepted ys
+accepted-append : (xs ys : Line Step) → accepted (xs ⧺ ys) ≡ accepted xs ⧺ accepted ys
 accepted-append xs start = refl
 accepted-append xs (ys ▸ y) =
     accepted-more (eqb (refusal (hearing y)) 0) (hearing y .report) (accepted (xs ⧺ ys)) (accepted xs) (accepted ys)

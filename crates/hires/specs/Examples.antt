@@ -2,7 +2,7 @@
 use mathlib.Core.Bool.{Bool, true, false, xor}
 use mathlib.Core.List.{List, [], _∷_}
 use Prim.Native.Nat.{ℕ}
-use lib.ListN.{length, take, replicate}
+use lib.ListN.{length, replicate}
 use Rattle.bits.specs.Bits.{bit, num, bitsN, bitsOf, testBit}
 use Rattle.fcs.specs.Polynomials.{mixed, times, lead, step, remainder}
 use Rattle.fcs.specs.Annex.{generator, started, remainderOf, fcsOf}
@@ -11,7 +11,8 @@ use Rattle.transport.specs.Reading.{readBits}
 use Rattle.transport.specs.Building.{frameBits, builtBits}
 use Rattle.transport.specs.declared.Message.{Message}
 use Rattle.transport.specs.declared.Transport.{Transport}
-use Rattle.demands.specs.Examples.{Example, _gives_, AllHold, hold}
+use Rattle.demands.specs.Examples.{Example, _gives_, AllHold}
+use Rattle.demands.proofs.ExamplesHold.{hold}
 
 -- The FCS of these bits, as one number.
 abbrev fcs : List Bool → List ℕ

@@ -12,7 +12,7 @@ use Rattle.store.specs.Store.{messageBytes}
 use Rattle.history.specs.Line.{Line, start, _▸_, each}
 use Rattle.reports.specs.Lent.{Lent}
 use Rattle.reports.specs.declared.unit.Settings.{Settings}
-use Rattle.receiver.specs.Held.{freshOf}
+use Rattle.receiver.specs.View.{freshOf}
 use Rattle.receiver.specs.Reached.{refusedWith, Hears}
 use Rattle.receiver.specs.declared.Receiver.{Receiver}
 use Rattle.receiver.specs.declared.Reply.{Reply}

@@ -1,3 +1,5 @@
+pub mod Turns
+pub mod Verdicts
 pub mod OpenRun
 pub mod NearestHeader
 pub mod Outcomes

@@ -1,22 +1,32 @@
 -- Each outcome and the dropped mark, as the step gives them and as the history asks for them. Assumes nothing.
 use Prim.Native.Nat.{ℕ, suc, _≤_}
 use native.Mathlib.Omega.{arith}
-use mathlib.Core.Path.{_≡_, refl, sym, _∙_, ap, ap₂, subst, subst⁻¹}
+use mathlib.Core.Path.{_≡_, refl, sym, _∙_, ap, ap₂, subst}
 use mathlib.Core.Bool.{Bool, true, false, cond, not, _&&_}
-use mathlib.Core.List.{List}
-use mathlib.Core.Option.{Option, none, some}
+use mathlib.Core.List.{List, _++_}
 use lib.Dec.{eqb}
 use borrow.Author.Tests.{eqb-true, eqb-false, eq-eqb, ne-eqb, not-true}
 use Rattle.history.specs.Line.{_▸_, count}
-use Rattle.history.specs.Slots.{same-place, Header, Heard, nothing, fragmented, unfragmented, frag, end, Report}
-use Rattle.store.specs.Store.{same-numbers}
-use Rattle.store.proofs.Blocks.{same-is}
+use Rattle.history.specs.Slots.{header-in, bits-in, Header, Heard, Report}
+use Rattle.history.specs.Slots.{nothing, fragmented, unfragmented, frag, end}
 use Rattle.blocks.specs.declared.header.Fields.{Fields}
 use Rattle.history.specs.declared.Place.{Place}
-use Rattle.history.specs.Step.{Open, Near, Outcome, quiet, single, joined, opened, kept, copy, in-turn, repeats, older, still, still-near, handing, frag-out, end-out, telling, dropping, drop-mark, answer, after, outcome-at, dropped-at}
-use Rattle.history.specs.History.{History, Unbroken, NotFragmented, Run, IsOpen, next-due, Closes, Keeps, Singles, Copies, Opens, DueKind, Repeats, Ends, broken, other-header, missed, Drops}
-use Rattle.history.proofs.OpenRun.{and-true, same-numbers-is, same-place-true, same-place-is, turn-true, turn-is, report, shape, Holds, holds, found, left, again-true, again-is}
-use Rattle.history.proofs.NearestHeader.{copy-test, copy-true, copy-is}
+use Rattle.history.specs.declared.Near.{Near}
+use Rattle.history.specs.declared.Verdict.{Verdict}
+use Rattle.history.specs.Step.{Assembly, State, Outcome, Answer, quiet, single, joined, opened, kept, copy}
+use Rattle.history.specs.Step.{no-run, in-turn, is-held, is-due, is-last, repeats, renews, older-run, broken-off}
+use Rattle.history.specs.Step.{on-frag, on-end, on-fragmented, on-unfragmented, outcome-of, judged, answered}
+use Rattle.history.specs.Step.{answer, after, outcome-at, dropped-at}
+use Rattle.history.specs.History.{History, Unbroken, Run, IsOpen, next-due, Closes, Keeps, Singles, Copies, Opens}
+use Rattle.history.specs.History.{NotForUs, DueKind, Repeats, Ends, broken, other-header, missed, Drops}
+use Rattle.history.proofs.Verdicts.{absurd-bool, unfit, Hands, no-hand, hand, mark-is}
+use Rattle.history.proofs.Verdicts.{Comes, passing, missing, keeping, closing, heading, comes}
+use Rattle.history.proofs.Verdicts.{lost-is, misses-is, quiet-is, rest, rest-at, lost-at, comes-at}
+use Rattle.history.proofs.OpenRun.{and-true, same-place-true, same-place-is, turn-true, turn-is, report, on}
+use Rattle.history.proofs.OpenRun.{shape, left, again-true, again-is, repeats-true, repeats-is, left-at, found}
+use Rattle.history.proofs.OpenRun.{Holds, none-held, run-held, holds, Rests, none-rests, run-rests, rests-at}
+use Rattle.history.proofs.OpenRun.{leaving}
+use Rattle.history.proofs.NearestHeader.{copied, copy-true, copy-is}
 
 -- What each outcome says of the history.
 abbrev Says : History → Report → Outcome → Type 0
@@ -27,232 +37,227 @@ Says hs r opened = Opens r
 Says hs r kept = Keeps hs r
 Says hs r copy = Copies hs r
 
-absurd-bool : {A : Type 0} → false ≡ true → A
-absurd-bool e = let z : _≡_ {A = ℕ} 0 1 = cc in absurd (omega arith)
+module _ (hs : History) (q : Place) where
+  says-hands : (g : Fields) (m : List Bool) {x : Heard} {o : ℕ} {near : Bool} → Hands (rest-at hs q .near) x o near
+      → Says hs (report q x) (outcome-of o (header-in x .fields) (bits-in x) g m)
+  says-hands g m (no-hand w) = tt
+  says-hands g m (hand {h} {f} true w e) =
+      let c = copy-true hs (report q (unfragmented h f)) h f e in
+      record { header = h; countdown = f; holds = refl; for-us = w; is-copy = c }
+  says-hands g m (hand {h} {f} false w e) =
+      record {
+        header = h;
+        countdown = f;
+        holds = refl;
+        for-us = w;
+        no-copy = λ y. absurd-bool (sym e ∙ copy-is hs (report q (unfragmented h f)) h f y);
+        its-fields = refl;
+        its-bits = refl;
+      }
 
-says-header : (hs : History) (q : Place) (h : Header) (more f : ℕ) (b : Bool) → h .for-us ≡ b
-    → Says hs (report q (fragmented h more f)) (cond b opened quiet)
-says-header hs q h more f false e = tt
-says-header hs q h more f true e = record { header = h; more = more; countdown = f; holds = refl; for-us = e }
+  says-step : {lost : Bool} {a : Assembly} {x : Heard} {v : Verdict} → Rests hs (report q x) a
+      → Comes (a .run) (rest-at hs q .near) q lost x v
+      → Says hs (report q x) (answered (rest q (rest-at hs q .near) a) x v .outcome)
+  says-step {a = a} {x = x} i (passing n d g) = says-hands (a .run .fields) (a .joined ++ bits-in x) g
+  says-step {a = a} {x = x} i (missing n d w g) = says-hands (a .run .fields) (a .joined ++ bits-in x) g
+  says-step none-rests (keeping b d l) = absurd-bool d
+  says-step (run-rests u o k) (keeping b d l) =
+      let n = eqb-false (count (u .blocks)) (u .more) l in
+      record {
+        run = u;
+        is-open = o;
+        unbroken = k;
+        in-due = same-place-true q (next-due u) d;
+        not-full = omega (arith, o .short);
+        block = b;
+        holds = refl;
+      }
+  says-step none-rests (closing b d l) = absurd-bool d
+  says-step (run-rests u o k) (closing b d l) =
+      record {
+        run = u;
+        is-open = o;
+        unbroken = k;
+        in-due = same-place-true q (next-due u) d;
+        full = eqb-true (count (u .blocks)) (u .more) l;
+        last = b;
+        holds = refl;
+        its-fields = refl;
+        its-bits = refl;
+      }
+  says-step i (heading {h} {more} {f} true w) =
+      record { header = h; more = more; countdown = f; holds = refl; for-us = w }
+  says-step i (heading false w) = tt
 
-says-single : (hs : History) (q : Place) (h : Header) (f : ℕ) (b c : Bool) → h .for-us ≡ b → copy-test hs (report q (unfragmented h f)) h f ≡ c
-    → Says hs (report q (unfragmented h f)) (handing b c h)
-says-single hs q h f false c e e′ = tt
-says-single hs q h f true true e e′ =
-    record { header = h; countdown = f; holds = refl; for-us = e; is-copy = copy-true hs (report q (unfragmented h f)) h f e′ }
-says-single hs q h f true false e e′ =
-    record {
-      header = h;
-      countdown = f;
-      holds = refl;
-      for-us = e;
-      no-copy = λ y. absurd-bool (sym e′ ∙ copy-is hs (report q (unfragmented h f)) h f y);
-      its-fields = refl;
-      its-bits = refl;
-    }
-
-says-frag : (hs : History) (u : Run) (q : Place) (b : List Bool) → IsOpen hs u → Unbroken hs q
-    → (d l : Bool) → same-place q (next-due u) ≡ d → eqb (count (u .blocks)) (u .more) ≡ l
-    → Says hs (report q (frag b)) (frag-out d l)
-says-frag hs u q b o k false l e e′ = tt
-says-frag hs u q b o k true true e e′ = tt
-says-frag hs u q b o k true false e e′ =
-    let n = eqb-false (count (u .blocks)) (u .more) e′ in
-    record {
-      run = u;
-      is-open = o;
-      unbroken = k;
-      in-due = same-place-true q (next-due u) e;
-      not-full = omega (arith, o .short);
-      block = b;
-      holds = refl;
-    }
-
-says-end : (hs : History) (u : Run) (q : Place) (b : List Bool) → IsOpen hs u → Unbroken hs q
-    → (d l : Bool) → same-place q (next-due u) ≡ d → eqb (count (u .blocks)) (u .more) ≡ l
-    → Says hs (report q (end b)) (end-out d l (older q (shape u)) b)
-says-end hs u q b o k false l e e′ = tt
-says-end hs u q b o k true false e e′ = tt
-says-end hs u q b o k true true e e′ =
-    record {
-      run = u;
-      is-open = o;
-      unbroken = k;
-      in-due = same-place-true q (next-due u) e;
-      full = eqb-true (count (u .blocks)) (u .more) e′;
-      last = b;
-      holds = refl;
-      its-fields = refl;
-      its-bits = refl;
-    }
-
-says-frags : (hs : History) (q : Place) (b : List Bool) (t : Bool) (m : Option Open) (n : Option Near) → (t ≡ true → Unbroken hs q) → Holds hs m
-    → Says hs (report q (frag b)) (telling (still t q m) n q (frag b))
-says-frags hs q b false m n k i = tt
-says-frags hs q b true none n k i = tt
-says-frags hs q b true (some a) n k (u, o, w) =
-    subst⁻¹
-    (λ (a : Open). Says hs (report q (frag b)) (telling (some (older q a)) n q (frag b)))
-    w
-    (says-frag hs u q b o (k refl) (same-place q (next-due u)) (eqb (count (u .blocks)) (u .more)) refl refl)
-
-says-ends : (hs : History) (q : Place) (b : List Bool) (t : Bool) (m : Option Open) (n : Option Near) → (t ≡ true → Unbroken hs q) → Holds hs m
-    → Says hs (report q (end b)) (telling (still t q m) n q (end b))
-says-ends hs q b false m n k i = tt
-says-ends hs q b true none n k i = tt
-says-ends hs q b true (some a) n k (u, o, w) =
-    subst⁻¹
-    (λ (a : Open). Says hs (report q (end b)) (telling (some (older q a)) n q (end b)))
-    w
-    (says-end hs u q b o (k refl) (same-place q (next-due u)) (eqb (count (u .blocks)) (u .more)) refl refl)
-
-says-at : (hs : History) (q : Place) (x : Heard) → Says hs (report q x) (outcome-at hs (report q x))
-unfolding answer
-says-at hs q nothing = tt
-says-at hs q (fragmented h more f) = says-header hs q h more f (h .for-us) refl
-says-at hs q (unfragmented h f) = says-single hs q h f (h .for-us) (copy-test hs (report q (unfragmented h f)) h f) refl refl
-says-at hs q (frag b) =
-    let t = in-turn (after hs .last) q in
-    says-frags hs q b t (after hs .assembly) (still-near t q (after hs .near)) (turn-true hs q) (holds hs)
-says-at hs q (end b) =
-    let t = in-turn (after hs .last) q in
-    says-ends hs q b t (after hs .assembly) (still-near t q (after hs .near)) (turn-true hs q) (holds hs)
-
-pub says : (hs : History) (r : Report) (o : Outcome) → outcome-at hs r ≡ o → Says hs r o
-says hs r o e = subst (λ (o : Outcome). Says hs r o) e (says-at hs (r .place) (r .heard))
-
--- The answer where the run is known.
-telling-at : (hs : History) (r : Report) (u : Run) (x : Heard) → IsOpen hs u → Unbroken hs (r .place) → r .heard ≡ x
-    → outcome-at hs r ≡ telling (some (older (r .place) (shape u))) (still-near (in-turn (after hs .last) (r .place)) (r .place) (after hs .near)) (r .place) x
-unfolding answer
-telling-at hs r u x o k e =
-    let q = r .place in
-    let n = still-near (in-turn (after hs .last) q) q (after hs .near) in
-    ap₂ (λ (t : Bool) (m : Option Open). telling (still t q m) n q (r .heard)) (turn-is hs q k) (found hs u o)
-    ∙ ap (λ (x : Heard). telling (some (older q (shape u))) n q x) e
-
-pub closes : (hs : History) (r : Report) (g : Fields) (m : List Bool) → Closes hs r g m → outcome-at hs r ≡ joined g m
-closes hs r g m c =
-    let u = c .run in
-    let q = r .place in
-    telling-at hs r u (end (c .last)) (c .is-open) (c .unbroken) (c .holds)
-    ∙ ap₂
-    (λ (d l : Bool). end-out d l (older q (shape u)) (c .last))
-    (same-place-is q (next-due u) (c .in-due))
-    (eq-eqb (count (u .blocks)) (u .more) (c .full))
-    ∙ ap₂ joined (sym (c .its-fields)) (sym (c .its-bits))
-
-pub keeps : (hs : History) (r : Report) → Keeps hs r → outcome-at hs r ≡ kept
-keeps hs r c =
-    let u = c .run in
-    let q = r .place in
-    let l = c .not-full in
-    telling-at hs r u (frag (c .block)) (c .is-open) (c .unbroken) (c .holds)
-    ∙ ap₂
-    frag-out
-    (same-place-is q (next-due u) (c .in-due))
-    (ne-eqb (count (u .blocks)) (u .more) (omega arith))
-
-untrue : (b : Bool) → (b ≡ true → ⊥) → b ≡ false
+pub untrue : (b : Bool) → (b ≡ true → ⊥) → b ≡ false
 untrue false h = refl
 untrue true h = absurd (h refl)
 
--- The answer to an unfragmented header for this unit turns on the test for a copy.
-handing-at : (hs : History) (r : Report) (h : Header) (f : ℕ) (b : Bool) → r .heard ≡ unfragmented h f → h .for-us ≡ true → copy-test hs r h f ≡ b
-    → outcome-at hs r ≡ handing true b h
-unfolding answer
-handing-at hs r h f b e w c =
-    let q = r .place in
-    let t = in-turn (after hs .last) q in
-    ap (λ (x : Heard). telling (still t q (after hs .assembly)) (still-near t q (after hs .near)) q x) e ∙ ap₂ (λ (d c : Bool). handing d c h) w c
+module _ (hs : History) (r : Report) where
+  pub says : (o : Outcome) → outcome-at hs r ≡ o → Says hs r o
+  unfolding answer
+  says o e = subst (λ (o : Outcome). Says hs r o) e (says-step hs (r .place) (rests-at hs r (holds hs)) (comes-at hs r))
 
-pub singles : (hs : History) (r : Report) (g : Fields) (m : List Bool) → Singles hs r g m → outcome-at hs r ≡ single g m
-singles hs r g m c =
-    let h = c .header in
-    let f = c .countdown in
-    handing-at hs r h f false (c .holds) (c .for-us) (untrue (copy-test hs r h f) (λ e. c .no-copy (copy-true hs r h f e)))
-    ∙ ap₂ single (sym (c .its-fields)) (sym (c .its-bits))
+  -- The other way round: the answer where what is left and what is heard are known.
+  pub answer-at : (a : Assembly) (x : Heard) → rest-at hs (r .place) .assembly ≡ a → r .heard ≡ x
+      → answer (after hs) r ≡ answered (leaving hs r a) x (judged (leaving hs r a) (r .place) x (lost-at hs (r .place)))
+  unfolding answer
+  answer-at a x e g =
+      let v : State → Heard → Verdict = λ s x. judged s (r .place) x (lost-at hs (r .place)) in
+      ap₂ (λ (a : Assembly) (x : Heard). let s = leaving hs r a in answered s x (v s x)) e g
 
-pub copies : (hs : History) (r : Report) → Copies hs r → outcome-at hs r ≡ copy
-copies hs r c = handing-at hs r (c .header) (c .countdown) true (c .holds) (c .for-us) (copy-is hs r (c .header) (c .countdown) (c .is-copy))
+  -- What is left of a known run.
+  pub run-at : (u : Run) → IsOpen hs u → Unbroken hs (r .place) → rest-at hs (r .place) .assembly ≡ shape (on u r)
+  run-at u o k = left-at hs (r .place) k (found hs u o)
 
-pub opens : (hs : History) (r : Report) → Opens r → outcome-at hs r ≡ opened
-unfolding answer
-opens hs r c =
-    let q = r .place in
-    let t = in-turn (after hs .last) q in
-    ap (λ (x : Heard). telling (still t q (after hs .assembly)) (still-near t q (after hs .near)) q x) (c .holds)
-    ∙ ap (λ (b : Bool). cond b opened quiet) (c .for-us)
+  pub closes : (g : Fields) (m : List Bool) → Closes hs r g m → outcome-at hs r ≡ joined g m
+  closes g m c =
+      let u = c .run in
+      let x = end (c .last) in
+      let a = shape (on u r) in
+      ap (λ (y : Answer). y .outcome) (answer-at a x (run-at u (c .is-open) (c .unbroken)) (c .holds))
+      ∙ ap₂ (λ (d l : Bool). answered (leaving hs r a) x (on-end d l (lost-at hs (r .place))) .outcome)
+      (same-place-is (r .place) (next-due u) (c .in-due)) (eq-eqb (count (u .blocks)) (u .more) (c .full))
+      ∙ ap₂ joined (sym (c .its-fields)) (sym (c .its-bits))
 
--- The dropped mark.
-abbrev repeat-test : Run → Report → Header → ℕ → Bool
-repeat-test u r h f = h .for-us && (eqb (count (u .blocks)) 0 && repeats (u .header .raw) (left (suc (u .countdown)) (u .since ▸ r)) h f)
+  pub keeps : Keeps hs r → outcome-at hs r ≡ kept
+  keeps c =
+      let u = c .run in
+      let x = frag (c .block) in
+      let a = shape (on u r) in
+      let l = c .not-full in
+      ap (λ (y : Answer). y .outcome) (answer-at a x (run-at u (c .is-open) (c .unbroken)) (c .holds))
+      ∙ ap₂ (λ (d l : Bool). answered (leaving hs r a) x (on-frag d l (lost-at hs (r .place))) .outcome)
+      (same-place-is (r .place) (next-due u) (c .in-due)) (ne-eqb (count (u .blocks)) (u .more) (omega arith))
 
-repeat-is : (u : Run) (r : Report) (h : Header) (f : ℕ) → Repeats u r h f → repeat-test u r h f ≡ true
-repeat-is u r h f (w, a, b, c) =
-    ap₂ _&&_ w (ap₂ _&&_ (eq-eqb (count (u .blocks)) 0 a) (ap₂ _&&_ (same-numbers-is (u .header .raw) (h .raw) b) (again-is (u .countdown) f (u .since ▸ r) c)))
+  -- The answer to an unfragmented header for this unit turns on the test for a copy.
+  pub hands-at : (h : Header) (f : ℕ) (b : Bool) → r .heard ≡ unfragmented h f → h .for-us ≡ true
+      → copied h f (rest-at hs (r .place) .near) ≡ b → let a = rest-at hs (r .place) .assembly in
+      outcome-at hs r ≡ outcome-of (cond b 5 1) (h .fields) (h .bits) (a .run .fields) (a .joined ++ h .bits)
+  hands-at h f b e w c =
+      let s = rest-at hs (r .place) in
+      let d = is-due (s .assembly .run) (r .place) in
+      ap (λ (y : Answer). y .outcome) (answer-at (s .assembly) (unfragmented h f) refl e)
+      ∙ ap₂ (λ (w b : Bool). answered s (unfragmented h f) (on-unfragmented d w b (lost-at hs (r .place))) .outcome) w c
 
-repeat-true : (u : Run) (r : Report) (h : Header) (f : ℕ) → repeat-test u r h f ≡ true → Repeats u r h f
-repeat-true u r h f e =
-    let w = and-true (h .for-us) (eqb (count (u .blocks)) 0 && repeats (u .header .raw) (left (suc (u .countdown)) (u .since ▸ r)) h f) e in
-    let a = and-true (eqb (count (u .blocks)) 0) (repeats (u .header .raw) (left (suc (u .countdown)) (u .since ▸ r)) h f) (w .1) in
-    let b = and-true (same-numbers (u .header .raw) (h .raw)) (eqb (left (suc (u .countdown)) (u .since ▸ r)) (suc f)) (a .1) in
-    (w .0, eqb-true (count (u .blocks)) 0 (a .0), same-is (u .header .raw) (h .raw) (b .0), again-true (u .countdown) f (u .since ▸ r) (b .1))
+  pub singles : (g : Fields) (m : List Bool) → Singles hs r g m → outcome-at hs r ≡ single g m
+  singles g m c =
+      let h = c .header in
+      let f = c .countdown in
+      let no = untrue (copied h f (rest-at hs (r .place) .near)) (λ e. c .no-copy (copy-true hs r h f e)) in
+      hands-at h f false (c .holds) (c .for-us) no ∙ ap₂ single (sym (c .its-fields)) (sym (c .its-bits))
 
-ends-in-turn : (hs : History) (u : Run) (q : Place) (x : Heard) → IsOpen hs u → dropping true (older q (shape u)) q x ≡ true → Ends hs u (report q x)
-ends-in-turn hs u q nothing o e = missed (same-place-true q (next-due u) e) tt (λ z. z)
-ends-in-turn hs u q (fragmented h more f) o e =
-    other-header h more f refl λ y. absurd-bool (sym (not-true (repeat-test u (report q (fragmented h more f)) h f) e) ∙ repeat-is u (report q (fragmented h more f)) h f y)
-ends-in-turn hs u q (unfragmented h f) o e = missed (same-place-true q (next-due u) e) tt (λ z. z)
-ends-in-turn hs u q (frag b) o e =
-    let a = and-true (same-place q (next-due u)) (eqb (count (u .blocks)) (u .more)) e in
-    let l = eqb-true (count (u .blocks)) (u .more) (a .1) in
-    missed (same-place-true q (next-due u) (a .0)) tt (λ z. omega (arith, l, z))
-ends-in-turn hs u q (end b) o e =
-    let a = and-true (same-place q (next-due u)) (not (eqb (count (u .blocks)) (u .more))) e in
-    let l = eqb-false (count (u .blocks)) (u .more) (not-true (eqb (count (u .blocks)) (u .more)) (a .1)) in
-    missed (same-place-true q (next-due u) (a .0)) tt l
+  pub copies : Copies hs r → outcome-at hs r ≡ copy
+  copies c =
+      let yes = copy-is hs r (c .header) (c .countdown) (c .is-copy) in
+      hands-at (c .header) (c .countdown) true (c .holds) (c .for-us) yes
 
-drops-go : (hs : History) (q : Place) (x : Heard) (t : Bool) (m : Option Open) → (t ≡ false → Unbroken hs q → ⊥) → Holds hs m → drop-mark t m q x ≡ true
+  pub opens : Opens r → outcome-at hs r ≡ opened
+  opens c =
+      let h = c .header in
+      let x = fragmented h (c .more) (c .countdown) in
+      let s = rest-at hs (r .place) in
+      let a = s .assembly .run in
+      let lost = lost-at hs (r .place) in
+      let again : Bool → Bool = λ w. renews a w (h .raw) (c .countdown) in
+      ap (λ (y : Answer). y .outcome) (answer-at (s .assembly) x refl (c .holds))
+      ∙ ap (λ (w : Bool). answered s x (on-fragmented w (is-held a) (again w) lost) .outcome) (c .for-us)
+
+  -- Nothing is told of what is not for this unit, and is not the block that is due.
+  pub quiet-at : NotForUs (r .heard) → let a = rest-at hs (r .place) .assembly .run in
+      (is-due a (r .place) ≡ true → unfit (is-last a) (r .heard) ≡ true) → outcome-at hs r ≡ quiet
+  unfolding answer
+  quiet-at e k =
+      let a = rest-at hs (r .place) .assembly in
+      let x = r .heard in
+      ap (λ (n : ℕ). outcome-of n (header-in x .fields) (bits-in x) (a .run .fields) (a .joined ++ bits-in x))
+      (quiet-is (comes-at hs r) e k)
+
+-- The dropped mark. A run's own header again, by its test; and not the block that is due.
+module _ (u : Run) where
+  repeat-is : (r : Report) (h : Header) (f : ℕ) → Repeats u r h f
+      → renews (shape (on u r) .run) (h .for-us) (h .raw) f ≡ true
+  repeat-is r h f (w, a, b, c) =
+      let n = left (suc (u .countdown)) (u .since ▸ r) in
+      let e = repeats-is (u .header .raw) (h .raw) n f b (again-is (u .countdown) f (u .since ▸ r) c) in
+      ap₂ _&&_ w (ap₂ _&&_ (eq-eqb (count (u .blocks)) 0 a) e)
+
+  repeat-true : (r : Report) (h : Header) (f : ℕ) → renews (shape (on u r) .run) (h .for-us) (h .raw) f ≡ true
+      → Repeats u r h f
+  repeat-true r h f e =
+      let n = left (suc (u .countdown)) (u .since ▸ r) in
+      let k = eqb (count (u .blocks)) 0 in
+      let (w, e₁) = and-true (h .for-us) (k && repeats (u .header .raw) n (h .raw) f) e in
+      let (a, e₂) = and-true k (repeats (u .header .raw) n (h .raw) f) e₁ in
+      let (b, c) = repeats-true (u .header .raw) (h .raw) n f e₂ in
+      (w, eqb-true (count (u .blocks)) 0 a, b, again-true (u .countdown) f (u .since ▸ r) c)
+
+  unfit-true : (x : Heard) → unfit (is-last (shape u .run)) x ≡ true → DueKind u x → ⊥
+  unfit-true nothing e z = z
+  unfit-true (fragmented h more f) e z = z
+  unfit-true (unfragmented h f) e z = z
+  unfit-true (frag b) e z = omega (arith, eqb-true (count (u .blocks)) (u .more) e, z)
+  unfit-true (end b) e z = eqb-false (count (u .blocks)) (u .more) (not-true (is-last (shape u .run)) e) z
+
+  unfit-is : (x : Heard) → count (u .blocks) ≤ u .more → (DueKind u x → ⊥) → unfit (is-last (shape u .run)) x ≡ true
+  unfit-is nothing l z = refl
+  unfit-is (fragmented h more f) l z = refl
+  unfit-is (unfragmented h f) l z = refl
+  unfit-is (frag b) l z = eq-eqb (count (u .blocks)) (u .more) (omega arith)
+  unfit-is (end b) l z = ap not (ne-eqb (count (u .blocks)) (u .more) z)
+
+drops-step : {hs : History} {q : Place} {n : Near} {lost : Bool} {a : Assembly} {x : Heard} {v : Verdict}
+    → Rests hs (report q x) a → (lost ≡ true → Drops hs (report q x)) → Comes (a .run) n q lost x v → v .dropped ≡ true
     → Drops hs (report q x)
-drops-go hs q x t none k i e = absurd-bool e
-drops-go hs q x false (some a) k (u, o, w) e = record { run = u; is-open = o; ends = broken (k refl) }
-drops-go hs q x true (some a) k (u, o, w) e =
-    record { run = u; is-open = o; ends = ends-in-turn hs u q x o (subst (λ (a : Open). dropping true (older q a) q x ≡ true) w e) }
+drops-step i j (passing n d g) e = j e
+drops-step none-rests j (missing n d w g) e = absurd-bool d
+drops-step {q = q} {x = x} (run-rests u o k) j (missing n d w g) e =
+    record { run = u; is-open = o; ends = missed (same-place-true q (next-due u) d) n (unfit-true u x w) }
+drops-step i j (keeping b d l) e = j e
+drops-step i j (closing b d l) e = j e
+drops-step {lost = lost} none-rests j (heading {h} {more} {f} w i) e =
+    j (sym (mark-is w false (renews no-run w (h .raw) f) lost) ∙ e)
+drops-step {q = q} {lost = lost} (run-rests u o k) j (heading {h} {more} {f} w i) e =
+    let r = report q (fragmented h more f) in
+    let again : Bool → Bool = λ w. renews (shape (on u r) .run) w (h .raw) f in
+    let no = ap again i ∙ not-true (again w) (sym (mark-is w true (again w) lost) ∙ e) in
+    record { run = u; is-open = o; ends = other-header h more f refl (λ y. absurd-bool (sym no ∙ repeat-is u r h f y)) }
 
-pub drops-true : (hs : History) (r : Report) → dropped-at hs r ≡ true → Drops hs r
-unfolding answer
-drops-true hs r e =
-    let q = r .place in
-    drops-go
-    hs
-    q
-    (r .heard)
-    (in-turn (after hs .last) q)
-    (after hs .assembly)
-    (λ e′ k. absurd-bool (sym e′ ∙ turn-is hs q k))
-    (holds hs)
-    e
+module _ (hs : History) (r : Report) where
+  drops-lost : (t : Bool) {a : Assembly} → in-turn (after hs .last) (r .place) ≡ t → Holds hs a
+      → broken-off t (a .run) ≡ true → Drops hs r
+  drops-lost true k i e = absurd-bool e
+  drops-lost false k none-held e = absurd-bool e
+  drops-lost false k (run-held u o) e =
+      record { run = u; is-open = o; ends = broken (λ b. absurd-bool (sym k ∙ turn-is hs (r .place) b)) }
 
-missing : (u : Run) (q : Place) (x : Heard) → NotFragmented x → (DueKind u x → ⊥) → count (u .blocks) ≤ u .more → same-place q (next-due u) ≡ true
-    → dropping true (older q (shape u)) q x ≡ true
-missing u q nothing n k l e = e
-missing u q (fragmented h more f) n k l e = absurd n
-missing u q (unfragmented h f) n k l e = e
-missing u q (frag b) n k l e = ap₂ _&&_ e (eq-eqb (count (u .blocks)) (u .more) (omega arith))
-missing u q (end b) n k l e = ap₂ (λ (d l : Bool). d && not l) e (ne-eqb (count (u .blocks)) (u .more) k)
+  pub drops-true : dropped-at hs r ≡ true → Drops hs r
+  unfolding answer
+  drops-true e =
+      let lost = drops-lost (in-turn (after hs .last) (r .place)) refl (holds hs) in
+      drops-step (rests-at hs r (holds hs)) lost (comes-at hs r) e
 
-dropping-is : (hs : History) (u : Run) (r : Report) (t : Bool) → IsOpen hs u → Ends hs u r → (t ≡ true → Unbroken hs (r .place))
-    → dropping t (older (r .place) (shape u)) (r .place) (r .heard) ≡ true
-dropping-is hs u r false o y k = refl
-dropping-is hs u r true o (broken n) k = absurd (n (k refl))
-dropping-is hs u r true o (other-header h more f e n) k =
-    ap (λ (x : Heard). dropping true (older (r .place) (shape u)) (r .place) x) e ∙ ap not (untrue (repeat-test u r h f) (λ z. n (repeat-true u r h f z)))
-dropping-is hs u r true o (missed d n z) k = missing u (r .place) (r .heard) n z (o .short) (same-place-is (r .place) (next-due u) d)
+  -- The other way round.
+  dropping : (u : Run) (t : Bool) → IsOpen hs u → Ends hs u r → in-turn (after hs .last) (r .place) ≡ t
+      → dropped-at hs r ≡ true
+  unfolding answer
+  dropping u false o y e =
+      lost-is (comes-at hs r) (ap (λ (t : Bool). is-held (older-run t (r .place) (after hs .assembly .run))) e)
+      (ap₂ (λ (t : Bool) (a : Assembly). broken-off t (a .run)) e (found hs u o))
+  dropping u true o (broken n) e = absurd (n (turn-true hs (r .place) e))
+  dropping u true o (other-header h more f x n) e =
+      let a = shape (on u r) in
+      let again = renews (a .run) (h .for-us) (h .raw) f in
+      let k = run-at hs r u o (turn-true hs (r .place) e) in
+      ap (λ (y : Answer). y .dropped) (answer-at hs r a (fragmented h more f) k x)
+      ∙ mark-is (h .for-us) true again (lost-at hs (r .place))
+      ∙ ap not (untrue again (λ z. n (repeat-true u r h f z)))
+  dropping u true o (missed d n z) e =
+      let q = r .place in
+      let a = shape (on u r) in
+      ap (λ (y : Answer). y .dropped) (answer-at hs r a (r .heard) (run-at hs r u o (turn-true hs q e)) refl)
+      ∙ misses-is (comes (a .run) (rest-at hs q .near) q (lost-at hs q) (r .heard)) n (same-place-is q (next-due u) d)
+      (unfit-is u (r .heard) (o .short) z)
 
-pub drops-is : (hs : History) (r : Report) → Drops hs r → dropped-at hs r ≡ true
-unfolding answer
-drops-is hs r c =
-    let q = r .place in
-    let t = in-turn (after hs .last) q in
-    ap (λ (m : Option Open). drop-mark t m q (r .heard)) (found hs (c .run) (c .is-open)) ∙ dropping-is hs (c .run) r t (c .is-open) (c .ends) (turn-true hs q)
+  pub drops-is : Drops hs r → dropped-at hs r ≡ true
+  drops-is c = dropping (c .run) (in-turn (after hs .last) (r .place)) (c .is-open) (c .ends) refl

@@ -1,10 +1,14 @@
--- What the receiver is to answer, read off the history of accepted reports, oldest first. Nothing here runs the step. Assumes nothing.
+-- What the receiver is to answer, read off the history of accepted reports, oldest first. Nothing here runs the step.
+-- Assumes nothing.
 use Prim.Native.Nat.{ℕ, _+_, _≤_, _<_}
 use mathlib.Core.Path.{_≡_}
 use mathlib.Core.Bool.{Bool, true, false, cond}
-use mathlib.Core.List.{List, [], _++_}
-use Rattle.history.specs.Line.{Line, start, _▸_, _⧺_, count, each, Every}
-use Rattle.history.specs.Slots.{same-place, next, tick, due, no-fields, Header, Heard, nothing, fragmented, unfragmented, frag, end, Report}
+use mathlib.Core.List.{List, [], _∷_, _++_}
+use Rattle.bits.specs.Runs.{joined}
+use Rattle.history.specs.Line.{Line, start, _▸_, _⧺_, count, each, list, Every}
+use Rattle.history.specs.Slots.{same-place, next, tick, due, no-fields, Header, Heard, nothing, fragmented}
+use Rattle.history.specs.Slots.{unfragmented, frag, end, Report}
+use Rattle.history.specs.Slots.{is-fragmented, header-in, countdown-in}
 use Rattle.blocks.specs.declared.header.Fields.{Fields}
 use Rattle.history.specs.declared.Place.{Place}
 
@@ -30,22 +34,18 @@ abbrev pub frames : History → ℕ
 frames start = 0
 frames (rs ▸ r) = tick (r .place) (frames rs)
 
--- What the due slots held, counted from a header in frame x with countdown f: block 0's slot, after it block 1's, and so on.
+-- What the due slots held, counted from a header in frame x with countdown f: block 0's slot, after it block 1's, and
+-- so on.
 abbrev pub dues : ℕ → ℕ → History → Line Heard
 dues x f start = start
 dues x f (rs ▸ r) = cond (same-place (r .place) (due x f (count (dues x f rs)))) (dues x f rs ▸ r .heard) (dues x f rs)
 
 -- A header's bits, and after them those of the blocks, in order.
 abbrev pub join : List Bool → Line (List Bool) → List Bool
-join bits start = bits
-join bits (bs ▸ b) = join bits bs ++ b
+join bits bs = joined (bits ∷ list bs)
 
 abbrev pub NotFragmented : Heard → Type 0
-NotFragmented nothing = Unit {0}
-NotFragmented (fragmented h more f) = ⊥
-NotFragmented (unfragmented h f) = Unit {0}
-NotFragmented (frag b) = Unit {0}
-NotFragmented (end b) = Unit {0}
+NotFragmented x = is-fragmented x ≡ false
 
 -- A run: a fragmented header with its place, the reports since, and the blocks that its due slots held.
 pub record Run : Type 0 where
@@ -56,11 +56,13 @@ pub record Run : Type 0 where
   pub since : History
   pub blocks : Line (List Bool)
 
--- The run is open in this history: the latest fragmented header heard from anyone is the run's, and is for this unit; every report since
--- names the slot next in turn; each due slot so far held a DMAC-FRAG, and the last due slot is yet to come.
+-- The run is open in this history: the latest fragmented header heard from anyone is the run's, and is for this unit;
+-- every report since names the slot next in turn; each due slot so far held a DMAC-FRAG, and the last due slot is yet
+-- to come.
 pub record IsOpen (hs : History) (u : Run) : Type 0 where
   pub before : History
-  pub split : hs ≡ (before ▸ record { place = u .place; heard = fragmented (u .header) (u .more) (u .countdown) }) ⧺ u .since
+  pub split : hs
+      ≡ (before ▸ record { place = u .place; heard = fragmented (u .header) (u .more) (u .countdown) }) ⧺ u .since
   pub for-us : u .header .for-us ≡ true
   pub latest : Every (λ r. NotFragmented (r .heard)) (u .since)
   pub turns : InTurn (u .place) (u .since)
@@ -71,8 +73,8 @@ pub record IsOpen (hs : History) (u : Run) : Type 0 where
 abbrev pub next-due : Run → Place
 next-due u = due (u .place .frame) (u .countdown) (count (u .blocks))
 
--- The report closes a full run: a run is open, the report names the slot next in turn, that is the due slot of the run's last block, and
--- it held a DMAC-END. The message is the run's bits, in order.
+-- The report closes a full run: a run is open, the report names the slot next in turn, that is the due slot of the
+-- run's last block, and it held a DMAC-END. The message is the run's bits, in order.
 pub record Closes (hs : History) (r : Report) (fields : Fields) (message : List Bool) : Type 0 where
   pub run : Run
   pub is-open : IsOpen hs run
@@ -96,18 +98,10 @@ pub record Keeps (hs : History) (r : Report) : Type 0 where
 
 -- A header for this unit, fragmented or not.
 abbrev pub Brings : Heard → Header → ℕ → Type 0
-Brings nothing h f = ⊥
-Brings (fragmented h′ more f′) h f = (h′ ≡ h) × (f′ ≡ f) × (h .for-us ≡ true)
-Brings (unfragmented h′ f′) h f = (h′ ≡ h) × (f′ ≡ f) × (h .for-us ≡ true)
-Brings (frag b) h f = ⊥
-Brings (end b) h f = ⊥
+Brings x h f = (header-in x ≡ h) × (countdown-in x ≡ f) × (h .for-us ≡ true)
 
 abbrev pub NotForUs : Heard → Type 0
-NotForUs nothing = Unit {0}
-NotForUs (fragmented h more f) = h .for-us ≡ false
-NotForUs (unfragmented h f) = h .for-us ≡ false
-NotForUs (frag b) = Unit {0}
-NotForUs (end b) = Unit {0}
+NotForUs x = header-in x .for-us ≡ false
 
 -- A header heard earlier, and the reports since.
 pub record Earlier : Type 0 where
@@ -167,7 +161,9 @@ DueKind u (end b) = count (u .blocks) ≡ u .more
 
 -- A header h for this unit, with countdown f, repeats at this report the run's own, before the run's first block.
 abbrev pub Repeats : Run → Report → Header → ℕ → Type 0
-Repeats u r h f = (h .for-us ≡ true) × (count (u .blocks) ≡ 0) × (u .header .raw ≡ h .raw) × (u .countdown ≡ f + frames (u .since ▸ r))
+Repeats u r h f =
+    (h .for-us ≡ true) × (count (u .blocks) ≡ 0) × (u .header .raw ≡ h .raw)
+    × (u .countdown ≡ f + frames (u .since ▸ r))
 
 -- Why an open run ends at a report without being handed over.
 pub data Ends (hs : History) (u : Run) (r : Report) : Type 0 where
@@ -182,7 +178,8 @@ pub record Drops (hs : History) (r : Report) : Type 0 where
 
 -- The answer that the history asks for: outcome number, header fields, and the message handed over.
 pub data Told (hs : History) (r : Report) : ℕ → Fields → List Bool → Type 0 where
-  nothing-told : ((g : Fields) (m : List Bool) → Singles hs r g m → ⊥) → ((g : Fields) (m : List Bool) → Closes hs r g m → ⊥) → (Opens r → ⊥)
+  nothing-told : ((g : Fields) (m : List Bool) → Singles hs r g m → ⊥)
+      → ((g : Fields) (m : List Bool) → Closes hs r g m → ⊥) → (Opens r → ⊥)
       → (Keeps hs r → ⊥) → (Copies hs r → ⊥) → Told hs r 0 no-fields []
   single-told : (g : Fields) (m : List Bool) → Singles hs r g m → Told hs r 1 g m
   joined-told : (g : Fields) (m : List Bool) → Closes hs r g m → Told hs r 2 g m

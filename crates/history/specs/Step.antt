@@ -1,37 +1,51 @@
--- The receiver, as a step that runs. Assumes nothing.
+-- The receiver, as a step that runs: each report is judged, by what it brings and by what is open, and the verdict says
+-- what is answered and what is changed. Assumes nothing.
 use Prim.Native.Nat.{ℕ, suc, _-_}
 use mathlib.Core.Bool.{Bool, true, false, cond, not, _&&_}
 use mathlib.Core.List.{List, [], _++_}
 use mathlib.Core.Option.{Option, none, some}
 use lib.Dec.{eqb}
 use Rattle.history.specs.Line.{Line, start, _▸_}
-use Rattle.history.specs.Slots.{same-place, next, due, no-fields, Header, Heard, nothing, fragmented, unfragmented, frag, end, Report}
-use Rattle.store.specs.Store.{same-numbers}
+use Rattle.history.specs.Slots.{same-place, next, due, no-fields, no-raw, Heard, Report}
+use Rattle.history.specs.Slots.{what-in, header-in, more-in, countdown-in, bits-in}
+use Rattle.store.specs.Store.{same-raw}
+use Rattle.store.specs.declared.Raw.{Raw}
 use Rattle.blocks.specs.declared.header.Fields.{Fields}
 use Rattle.history.specs.declared.Place.{Place}
+use Rattle.history.specs.declared.Near.{Near}
+use Rattle.history.specs.declared.Open.{Open}
+use Rattle.history.specs.declared.Verdict.{Verdict}
+use Rattle.history.specs.declared.Act.{Act}
+use Rattle.history.specs.declared.Act.the-variants.{Stays, Ends, Opens, Takes}
+use Rattle.history.specs.declared.What.{What}
+use Rattle.history.specs.declared.What.the-variants.{Nothing, Fragmented, Unfragmented, Frag, End}
 
--- An open assembly: what its header reads as and its SCH/H bits but for the countdown; its frame and countdown, from which the due slots are
--- counted; the number of blocks kept, and the bits joined so far; `again` is one more than the countdown that a repeat of the header has now, 0 when
--- there can be none any more.
-pub record Open : Type 0 where
-  pub fields : Fields
-  pub raw : List ℕ
-  pub more : ℕ
-  pub frame : ℕ
-  pub countdown : ℕ
-  pub kept : ℕ
+-- ---- What is kept.
+
+-- An assembly: what is kept of the open run, and the bits joined so far.
+pub record Assembly : Type 0 where
+  pub run : Open
   pub joined : List Bool
-  pub again : ℕ
-
--- The nearest earlier header for this unit with no break since, with `again` as above.
-pub record Near : Type 0 where
-  pub raw : List ℕ
-  pub again : ℕ
 
 pub record State : Type 0 where
   pub last : Option Place
-  pub assembly : Option Open
-  pub near : Option Near
+  pub near : Near
+  pub assembly : Assembly
+
+-- What is not there is zero.
+abbrev pub no-near : Near
+no-near = record { raw = no-raw; again = 0 }
+
+abbrev pub no-run : Open
+no-run = record { fields = no-fields; raw = no-raw; held = 0; again = 0; more = 0; frame = 0; countdown = 0; kept = 0 }
+
+abbrev pub no-assembly : Assembly
+no-assembly = record { run = no-run; joined = [] }
+
+abbrev pub fresh : State
+fresh = record { last = none; near = no-near; assembly = no-assembly }
+
+-- ---- What is answered.
 
 pub data Outcome : Type 0 where
   quiet : Outcome
@@ -48,7 +62,8 @@ number opened = 3
 number kept = 4
 number copy = 5
 
--- The message handed over, and its header fields: none, and 0, where nothing is handed over. The answer's bits are the message's length.
+-- The message handed over, and its header fields: none, and 0, where nothing is handed over. The answer's bits are the
+-- message's length.
 abbrev pub message-of : Outcome → List Bool
 message-of quiet = []
 message-of (single g m) = m
@@ -69,151 +84,191 @@ pub record Answer : Type 0 where
   pub outcome : Outcome
   pub dropped : Bool
 
-abbrev pub fresh : State
-fresh = record { last = none; assembly = none; near = none }
+-- ---- Tests.
 
--- Tests.
 abbrev pub in-turn : Option Place → Place → Bool
 in-turn none q = true
 in-turn (some p) q = same-place q (next p)
 
+abbrev pub is-held : Open → Bool
+is-held a = eqb (a .held) 1
+
 abbrev pub is-due : Open → Place → Bool
-is-due a q = same-place q (due (a .frame) (a .countdown) (a .kept))
+is-due a q = is-held a && same-place q (due (a .frame) (a .countdown) (a .kept))
 
 abbrev pub is-last : Open → Bool
 is-last a = eqb (a .kept) (a .more)
 
--- The header h with countdown f repeats an earlier one.
-abbrev pub repeats : List ℕ → ℕ → Header → ℕ → Bool
-repeats raw again h f = same-numbers raw (h .raw) && eqb again (suc f)
+-- A header, its SCH/H but for the countdown and its countdown, repeats an earlier one.
+abbrev pub repeats : Raw → ℕ → Raw → ℕ → Bool
+repeats raw again other f = same-raw raw other && eqb again (suc f)
+
+-- It repeats the open run's own, before the first block; `meant` where it is for this unit.
+abbrev pub renews : Open → Bool → Raw → ℕ → Bool
+renews a meant raw f = meant && (eqb (a .kept) 0 && repeats (a .raw) (a .again) raw f)
+
+-- ---- What is left when a report comes: nothing after a break, and else the same, some frames on.
 
 -- A countdown falls by one with each frame, at slot 1.
 abbrev pub wane : Place → ℕ → ℕ
 wane q n = cond (eqb (q .slot) 1) (n - 1) n
 
--- What is left of an assembly and of the nearest header when a report comes: nothing after a break, and else the same, some frames on.
-abbrev pub older : Place → Open → Open
-older q a = record { fields = a .fields; raw = a .raw; more = a .more; frame = a .frame; countdown = a .countdown; kept = a .kept; joined = a .joined; again = wane q (a .again) }
+abbrev pub older-near : Bool → Place → Near → Near
+older-near false q n = no-near
+older-near true q n = record { raw = n .raw; again = wane q (n .again) }
 
-abbrev pub older-near : Place → Near → Near
-older-near q n = record { raw = n .raw; again = wane q (n .again) }
+abbrev pub older-run : Bool → Place → Open → Open
+older-run false q a = no-run
+older-run true q a =
+    record {
+      fields = a .fields;
+      raw = a .raw;
+      held = a .held;
+      again = wane q (a .again);
+      more = a .more;
+      frame = a .frame;
+      countdown = a .countdown;
+      kept = a .kept;
+    }
 
-abbrev pub still : Bool → Place → Option Open → Option Open
-still false q m = none
-still true q none = none
-still true q (some a) = some (older q a)
+abbrev pub older : Bool → Place → Assembly → Assembly
+older t q a = record { run = older-run t q (a .run); joined = cond t (a .joined) [] }
 
-abbrev pub still-near : Bool → Place → Option Near → Option Near
-still-near false q m = none
-still-near true q none = none
-still-near true q (some n) = some (older-near q n)
+-- An open assembly is broken off.
+abbrev pub broken-off : Bool → Open → Bool
+broken-off true a = false
+broken-off false a = is-held a
 
--- The assembly after the report.
-abbrev pub opening : Bool → Place → Header → ℕ → ℕ → Option Open
-opening false q h more f = none
-opening true q h more f = some (record { fields = h .fields; raw = h .raw; more = more; frame = q .frame; countdown = f; kept = 0; joined = h .bits; again = suc f })
+-- ---- The rules: what a report comes to. `lost` where an open assembly was broken off.
 
--- A slot that is due and does not hold its block drops the assembly.
-abbrev pub unless : Bool → Open → Option Open
-unless true a = none
-unless false a = some a
+abbrev pub verdict : ℕ → Bool → Act → Bool → Verdict
+verdict outcome dropped act near = record { outcome = outcome; dropped = dropped; act = act; near = near }
 
-abbrev pub adding : Open → List Bool → Open
-adding a b = record { fields = a .fields; raw = a .raw; more = a .more; frame = a .frame; countdown = a .countdown; kept = suc (a .kept); joined = a .joined ++ b; again = a .again }
+-- The due block was not heard: the assembly ends, and the mark tells of it. A block that is not due changes nothing.
+abbrev pub missed : Verdict
+missed = verdict 0 true Ends false
 
--- due, last
-abbrev pub keeping : Bool → Bool → Open → List Bool → Option Open
-keeping false l a b = some a
-keeping true true a b = none
-keeping true false a b = some (adding a b)
+abbrev pub passed : Bool → Verdict
+passed lost = verdict 0 lost Stays false
 
-abbrev pub assembling : Option Open → Place → Heard → Option Open
-assembling m q (fragmented h more f) = opening (h .for-us) q h more f
-assembling none q nothing = none
-assembling none q (unfragmented h f) = none
-assembling none q (frag b) = none
-assembling none q (end b) = none
-assembling (some a) q nothing = unless (is-due a q) a
-assembling (some a) q (unfragmented h f) = unless (is-due a q) a
-assembling (some a) q (frag b) = keeping (is-due a q) (is-last a) a b
-assembling (some a) q (end b) = unless (is-due a q) a
+abbrev pub on-nothing : Bool → Bool → Verdict
+on-nothing due lost = cond due missed (passed lost)
 
--- The nearest header after the report.
-abbrev pub nearing : Bool → Header → ℕ → Option Near → Option Near
-nearing false h f n = n
-nearing true h f n = some (record { raw = h .raw; again = suc f })
+-- A DMAC-FRAG is kept where it is due and not the last one to come; a DMAC-END hands over where it is due and is.
+abbrev pub on-frag : Bool → Bool → Bool → Verdict
+on-frag due last lost = cond due (cond last missed (verdict 4 lost Takes false)) (passed lost)
 
-abbrev pub near-after : Option Near → Heard → Option Near
-near-after n nothing = n
-near-after n (fragmented h more f) = nearing (h .for-us) h f n
-near-after n (unfragmented h f) = nearing (h .for-us) h f n
-near-after n (frag b) = n
-near-after n (end b) = n
+abbrev pub on-end : Bool → Bool → Bool → Verdict
+on-end due last lost = cond due (cond last (verdict 2 lost Ends false) missed) (passed lost)
 
--- The outcome.
-abbrev pub is-copy : Option Near → Header → ℕ → Bool
-is-copy none h f = false
-is-copy (some n) h f = repeats (n .raw) (n .again) h f
+-- A fragmented header opens an assembly where it is for this unit, and ends an open one in any case; the mark tells of
+-- it, but where the header is the open run's own.
+abbrev pub on-fragmented : Bool → Bool → Bool → Bool → Verdict
+on-fragmented meant held renewed lost =
+    let mark = cond held (not renewed) lost in cond meant (verdict 3 mark Opens true) (verdict 0 mark Ends false)
 
--- for this unit, a copy
-abbrev pub handing : Bool → Bool → Header → Outcome
-handing false c h = quiet
-handing true true h = copy
-handing true false h = single (h .fields) (h .bits)
+-- To an open assembly an unfragmented header is as if nothing was heard.
+abbrev pub on-unfragmented : Bool → Bool → Bool → Bool → Verdict
+on-unfragmented due meant copied lost =
+    let p = on-nothing due lost in cond meant (verdict (cond copied 5 1) (p .dropped) (p .act) true) p
 
--- due, last
-abbrev pub frag-out : Bool → Bool → Outcome
-frag-out false l = quiet
-frag-out true true = quiet
-frag-out true false = kept
+-- By what the report brings, over what is left of the open run and of the nearest header: the slot, whether the header
+-- is for this unit, its SCH/H but for the countdown, its countdown.
+abbrev pub judge : What → Open → Near → Place → Bool → Raw → ℕ → Bool → Verdict
+judge Nothing a n q meant raw f lost = on-nothing (is-due a q) lost
+judge Fragmented a n q meant raw f lost = on-fragmented meant (is-held a) (renews a meant raw f) lost
+judge Unfragmented a n q meant raw f lost = on-unfragmented (is-due a q) meant (repeats (n .raw) (n .again) raw f) lost
+judge Frag a n q meant raw f lost = on-frag (is-due a q) (is-last a) lost
+judge End a n q meant raw f lost = on-end (is-due a q) (is-last a) lost
 
-abbrev pub end-out : Bool → Bool → Open → List Bool → Outcome
-end-out false l a b = quiet
-end-out true false a b = quiet
-end-out true true a b = joined (a .fields) (a .joined ++ b)
+-- ---- What a verdict changes, and what it answers.
 
-abbrev pub telling : Option Open → Option Near → Place → Heard → Outcome
-telling m n q nothing = quiet
-telling m n q (fragmented h more f) = cond (h .for-us) opened quiet
-telling m n q (unfragmented h f) = handing (h .for-us) (is-copy n h f) h
-telling none n q (frag b) = quiet
-telling (some a) n q (frag b) = frag-out (is-due a q) (is-last a)
-telling none n q (end b) = quiet
-telling (some a) n q (end b) = end-out (is-due a q) (is-last a) a b
+abbrev pub near-of : Raw → ℕ → Near
+near-of raw f = record { raw = raw; again = suc f }
 
--- Whether an open assembly ends here without being handed over; the assembly is as it was before the report, some frames on.
-abbrev pub dropping : Bool → Open → Place → Heard → Bool
-dropping false a q x = true
-dropping true a q nothing = is-due a q
-dropping true a q (fragmented h more f) = not (h .for-us && (eqb (a .kept) 0 && repeats (a .raw) (a .again) h f))
-dropping true a q (unfragmented h f) = is-due a q
-dropping true a q (frag b) = is-due a q && is-last a
-dropping true a q (end b) = is-due a q && not (is-last a)
+-- The run that a header opens.
+abbrev pub opening : Fields → Raw → ℕ → ℕ → ℕ → Open
+opening fields raw more frame f =
+    record { fields = fields; raw = raw; held = 1; again = suc f; more = more; frame = frame; countdown = f; kept = 0 }
 
--- The same, of what is left of it.
-abbrev pub ends-here : Option Open → Place → Heard → Bool
-ends-here none q x = false
-ends-here (some a) q x = dropping true a q x
+-- The run with one block more.
+abbrev pub taking : Open → Open
+taking a =
+    record {
+      fields = a .fields;
+      raw = a .raw;
+      held = a .held;
+      again = a .again;
+      more = a .more;
+      frame = a .frame;
+      countdown = a .countdown;
+      kept = suc (a .kept);
+    }
 
-abbrev pub drop-mark : Bool → Option Open → Place → Heard → Bool
-drop-mark t none q x = false
-drop-mark t (some a) q x = dropping t (older q a) q x
+-- By the act: the run, where this one would be opened; and the joined bits, where these are brought.
+abbrev pub run-after : Act → Open → Open → Open
+run-after Stays o a = a
+run-after Ends o a = no-run
+run-after Opens o a = o
+run-after Takes o a = taking a
 
--- The step.
-unfoldable pub step : State → Report → State
-step s r =
-    let q = r .place in
+abbrev pub joined-after : Act → List Bool → List Bool → List Bool
+joined-after Stays b j = j
+joined-after Ends b j = []
+joined-after Opens b j = b
+joined-after Takes b j = j ++ b
+
+-- By the outcome's number: the header's message, the joined one, or none.
+abbrev pub outcome-of : ℕ → Fields → List Bool → Fields → List Bool → Outcome
+outcome-of n g b fields message =
+    cond (eqb n 1) (single g b)
+    (cond (eqb n 2) (joined fields message) (cond (eqb n 3) opened (cond (eqb n 4) kept (cond (eqb n 5) copy quiet))))
+
+-- ---- The step.
+
+-- What is left of the state when a report comes.
+abbrev pub aged : State → Place → State
+aged s q =
     let t = in-turn (s .last) q in
-    record { last = some q; assembly = assembling (still t q (s .assembly)) q (r .heard); near = near-after (still-near t q (s .near)) (r .heard) }
+    record { last = some q; near = older-near t q (s .near); assembly = older t q (s .assembly) }
+
+-- What is made of a report that brings x in slot q, in such a state; `lost` as above.
+abbrev pub judged : State → Place → Heard → Bool → Verdict
+judged s q x lost =
+    judge (what-in x) (s .assembly .run) (s .near) q (header-in x .for-us) (header-in x .raw) (countdown-in x) lost
+
+abbrev pub changed : State → Place → Heard → Verdict → State
+changed s q x v =
+    record {
+      last = s .last;
+      near = cond (v .near) (near-of (header-in x .raw) (countdown-in x)) (s .near);
+      assembly = record {
+        run =
+            run-after (v .act)
+            (opening (header-in x .fields) (header-in x .raw) (more-in x) (q .frame) (countdown-in x))
+            (s .assembly .run);
+        joined = joined-after (v .act) (bits-in x) (s .assembly .joined);
+      };
+    }
+
+abbrev pub answered : State → Heard → Verdict → Answer
+answered s x v =
+    record {
+      outcome =
+          outcome-of (v .outcome) (header-in x .fields) (bits-in x) (s .assembly .run .fields)
+          (s .assembly .joined ++ bits-in x);
+      dropped = v .dropped;
+    }
+
+abbrev pub verdict-at : State → Report → Verdict
+verdict-at s r =
+    judged (aged s (r .place)) (r .place) (r .heard) (broken-off (in-turn (s .last) (r .place)) (s .assembly .run))
+
+unfoldable pub step : State → Report → State
+step s r = changed (aged s (r .place)) (r .place) (r .heard) (verdict-at s r)
 
 unfoldable pub answer : State → Report → Answer
-answer s r =
-    let q = r .place in
-    let t = in-turn (s .last) q in
-    record {
-      outcome = telling (still t q (s .assembly)) (still-near t q (s .near)) q (r .heard);
-      dropped = drop-mark t (s .assembly) q (r .heard);
-    }
+answer s r = answered (aged s (r .place)) (r .heard) (verdict-at s r)
 
 -- The state after a history of accepted reports, and the answer to one more.
 unfoldable pub after : Line Report → State

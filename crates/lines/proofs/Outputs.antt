@@ -18,7 +18,8 @@ unfolding hexText
 hex-some [] h = absurd (h refl)
 hex-some (x ∷ xs) h = refl
 
-pub wrote-dash : (old : List ℕ) (at : ℕ) (s : List ℕ) → length s ≡ 0 → at < length old → Wrote old at (hexText s) (set old at 45) (at + 1)
+pub wrote-dash : (old : List ℕ) (at : ℕ) (s : List ℕ) → length s ≡ 0 → at < length old
+    → Wrote old at (hexText s) (set old at 45) (at + 1)
 unfolding hexText
 wrote-dash old at [] e h = wrote-more old at [] 45 (wrote-none old at) h
 wrote-dash old at (x ∷ xs) e h = absurd (omega arith)
@@ -40,11 +41,15 @@ module _ (s : List ℕ) (i : ℕ) where
 
 -- ---- both
 
-pub wrote-shown : (old : List ℕ) (at n : ℕ) (s : List ℕ) {mid new : List ℕ} {end next r : ℕ} → r ≡ restOf (drop n s) → Wrote (set old at 32) (at + 1) (hexText (take n s)) mid end → Wrote mid end (spaced (r ∷ [])) new next
+pub wrote-shown : (old : List ℕ) (at n : ℕ) (s : List ℕ) {mid new : List ℕ} {end next r : ℕ} → r ≡ restOf (drop n s)
+    → Wrote (set old at 32) (at + 1) (hexText (take n s)) mid end → Wrote mid end (spaced (r ∷ [])) new next
     → at < length old → end ≤ length old → Wrote old at (shownOf n s) new next
 unfolding shownOf
 wrote-shown old at n s e u v h g =
-    rw (← e) (wrote-both old at (32 ∷ hexText (take n s)) _ (wrote-both old at (32 ∷ []) (hexText (take n s)) (wrote-more old at [] 32 (wrote-none old at) h) u (omega arith)) v g)
+    rw (← e)
+    (wrote-both old at (32 ∷ hexText (take n s)) _
+    (wrote-both old at (32 ∷ []) (hexText (take n s)) (wrote-more old at [] 32 (wrote-none old at) h) u (omega arith)) v
+    g)
 
 -- ---- a lent output is the start of a longer run of the same bytes
 

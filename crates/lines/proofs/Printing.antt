@@ -15,7 +15,8 @@ use Rattle.lines.specs.declared.input.Taken.{Taken}
 use Rattle.lines.specs.declared.input.Taken.the-variants.{Record}
 
 -- a word and the numbers after it
-pub wrote-start : (old word ns : List ℕ) {mid new : List ℕ} {at end : ℕ} → Wrote old 0 word mid at → Wrote mid at (spaced ns) new end → at ≤ length old → Wrote old 0 (startOf word ns) new end
+pub wrote-start : (old word ns : List ℕ) {mid new : List ℕ} {at end : ℕ} → Wrote old 0 word mid at
+    → Wrote mid at (spaced ns) new end → at ≤ length old → Wrote old 0 (startOf word ns) new end
 unfolding startOf
 wrote-start old word ns u v h = wrote-both old 0 word (spaced ns) u v h
 
@@ -25,7 +26,8 @@ pub ended : (old run : List ℕ) {new : List ℕ} {end : ℕ} → Wrote old 0 ru
 ended old run w e h = record { wrote = wrote-more old 0 run 10 w h; fits = simp length-set (omega arith) }
 
 -- a line that was written fits its buffer
-pub line-fits : (old : List ℕ) (line : Option (List ℕ)) (new : List ℕ) {r : Line} {n : ℕ} → r ≡ Bytes n → Says old line new r → n ≤ length new
+pub line-fits : (old : List ℕ) (line : Option (List ℕ)) (new : List ℕ) {r : Line} {n : ℕ} → r ≡ Bytes n
+    → Says old line new r → n ≤ length new
 line-fits old none new e s = absurd (rw e at s)
 line-fits old (some l) new e s = rw e at s .fits
 

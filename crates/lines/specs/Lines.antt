@@ -38,7 +38,8 @@ unfoldable pub restOf : List ℕ → ℕ
 restOf [] = 1
 restOf (x ∷ xs) = cond (eqb x 90) (restOf xs) 0
 
--- The first n bytes of a lent output and what is said of the rest, a space before each; a word and numbers before them, and a line end.
+-- The first n bytes of a lent output and what is said of the rest, a space before each; a word and numbers before
+-- them, and a line end.
 unfoldable pub shownOf : ℕ → List ℕ → List ℕ
 shownOf n s = (32 ∷ hexText (take n s)) ++ spaced (restOf (drop n s) ∷ [])
 

@@ -21,8 +21,8 @@ fn fill(run: &mut [u8], n: usize) -> usize
     io::read_full(STDIN_FILENO, &mut run[..n])
 }
 
-// Takes the next record. `Cut` is one that is cut off, has a length below 2, or a body that is longer than the buffer. A
-// buffer below four bytes takes none.
+// Takes the next record. `Cut` is one that is cut off, has a length below 2, or a body that is longer than the
+// buffer. A buffer below four bytes takes none.
 pub fn take(body: &mut [u8]) -> Taken
     ensures { λ r. ⌜ Held r (now (body .exit)) ⌝ }
 {

@@ -21,7 +21,8 @@ pub const BEFORE: u8 = 0x5A;
 // A word and numbers in decimal after it, a space before each.
 fn start(out: &mut [u8], word: &[u8], ns: &[u64]) -> usize
     requires { ⌜ length (now word) + 21 * length (now ns) ≤ length (now out) ⌝ }
-    ensures { λ r. ⌜ Wrote (now (out .entry)) 0 (startOf (now (word .entry)) (now (ns .entry))) (now (out .exit)) r × (r ≤ length (now (word .entry)) + 21 * length (now (ns .entry))) ⌝ }
+    ensures { λ r. ⌜ Wrote (now (out .entry)) 0 (startOf (now (word .entry)) (now (ns .entry))) (now (out .exit)) r
+        × (r ≤ length (now (word .entry)) + 21 * length (now (ns .entry))) ⌝ }
 {
     let at = text::copy(out, 0, word);
     text::numbers(out, at, ns)
@@ -40,7 +41,8 @@ pub fn line_of(out: &mut [u8], word: &[u8], ns: &[u64]) -> usize
 // Two digits for each byte, `-` for none.
 fn hex(out: &mut [u8], at: usize, s: &[u8]) -> usize
     requires { ⌜ at + 2 * length (now s) < length (now out) ⌝ }
-    ensures { λ r. ⌜ Wrote (now (out .entry)) at (hexText (now (s .entry))) (now (out .exit)) r × (r ≤ at + 2 * length (now (s .entry)) + 1) ⌝ }
+    ensures { λ r. ⌜ Wrote (now (out .entry)) at (hexText (now (s .entry))) (now (out .exit)) r
+        × (r ≤ at + 2 * length (now (s .entry)) + 1) ⌝ }
 {
     if s.len() == 0 {
         out[at] = b'-';
@@ -66,7 +68,8 @@ fn rest(s: &[u8], from: usize) -> u64
 // The first `n` bytes of a lent output, and what is said of the rest, a space before each.
 fn shown(out: &mut [u8], at: usize, s: &[u8], n: usize) -> usize
     requires { ⌜ (n ≤ length (now s)) × (at + 2 * n + 23 ≤ length (now out)) ⌝ }
-    ensures { λ r. ⌜ Wrote (now (out .entry)) at (shownOf n (now (s .entry))) (now (out .exit)) r × (r ≤ at + 2 * n + 23) ⌝ }
+    ensures { λ r. ⌜ Wrote (now (out .entry)) at (shownOf n (now (s .entry))) (now (out .exit)) r
+        × (r ≤ at + 2 * n + 23) ⌝ }
 {
     out[at] = b' ';
     let end = hex(out, at + 1, &s[..n]);
@@ -77,7 +80,8 @@ fn shown(out: &mut [u8], at: usize, s: &[u8], n: usize) -> usize
 // A word, numbers, the first `n` bytes of a lent output with what is said of the rest, and a line end.
 pub fn line_with(out: &mut [u8], word: &[u8], ns: &[u64], s: &[u8], n: usize) -> usize
     requires { ⌜ (n ≤ length (now s)) × (length (now word) + 21 * length (now ns) + 2 * n + 23 < length (now out)) ⌝ }
-    ensures { λ r. ⌜ Stands (now (out .entry)) (lineWith (now (word .entry)) (now (ns .entry)) n (now (s .entry))) (now (out .exit)) r ⌝ }
+    ensures { λ r. ⌜ Stands (now (out .entry)) (lineWith (now (word .entry)) (now (ns .entry)) n (now (s .entry)))
+        (now (out .exit)) r ⌝ }
 {
     let at = start(out, word, ns);
     let end = shown(out, at, s, n);

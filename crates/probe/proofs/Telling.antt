@@ -1,4 +1,4 @@
--- The laws of what is told of a record, by its kind. Assumes nothing.
+-- The laws of what is next of a record, by its kind. Assumes nothing.
 use mathlib.Core.Path.{_≡_, refl}
 use mathlib.Core.Bool.{Bool, true, false}
 use mathlib.Core.List.{List}
@@ -17,46 +17,48 @@ use Rattle.lines.specs.declared.line.Line.the-variants.{Bytes}
 use Rattle.lines.proofs.Printing.{line-fits}
 use Rattle.probe_blocks.specs.Calls.{recordLine}
 use Rattle.probe_reports.specs.Reports.{unitText, reportText, Either, freshIn, bufferIn, UnitTells, ReportTells}
-use Rattle.probe_reports.specs.declared.Told as reports
+use Rattle.probe_reports.specs.declared.ReceiverLine as reports
 use Rattle.probe_transport.specs.Calls.{freshText, bookText, readLine, buildLine, FreshTells, BookTells}
-use Rattle.probe_transport.specs.declared.Told as transport
-use Rattle.probe.specs.Tells.{StateReached, withReceiver, withBookings, ToReceiver, ToBookings, Prints, Tells}
+use Rattle.probe_transport.specs.declared.BookingsLine as transport
+use Rattle.probe.specs.Tells.{StateReached, withReceiver, withBookings, ToReceiver, ToBookings, OnlyPrints, Tells}
 use Rattle.probe.specs.declared.State.{State}
-use Rattle.probe.specs.declared.Told.{Told}
+use Rattle.probe.specs.declared.StateLine.{StateLine}
 
--- ---- what is kept and told, by the record's kind
+-- ---- what is kept and next, by the record's kind
 
 module _ (before : State) (k : StateReached before) where
-  to-receiver : (tells : reports.Told → Type 0) {t : Told} {told : reports.Told} → receiver.Reached (told .receiver)
-      → tells told → t ≡ withReceiver before told → StateReached (t .state) × ToReceiver tells before t
-  to-receiver tells {told = told} r h e =
-      (rw e (record { receiver = r; bookings = k .bookings }), record { told = told; holds = h; only = e })
+  to-receiver : (tells : reports.ReceiverLine → Type 0) {t : StateLine} {next : reports.ReceiverLine}
+      → receiver.Reached (next .receiver)
+      → tells next → t ≡ withReceiver before next → StateReached (t .state) × ToReceiver tells before t
+  to-receiver tells {next = next} r h e =
+      (rw e (record { receiver = r; bookings = k .bookings }), record { next = next; holds = h; only = e })
 
-  to-bookings : (tells : transport.Told → Type 0) {t : Told} {told : transport.Told} → bookings.Reached (told .bookings)
-      → tells told → t ≡ withBookings before told → StateReached (t .state) × ToBookings tells before t
-  to-bookings tells {told = told} r h e =
-      (rw e (record { receiver = k .receiver; bookings = r }), record { told = told; holds = h; only = e })
+  to-bookings : (tells : transport.BookingsLine → Type 0) {t : StateLine} {next : transport.BookingsLine}
+      → bookings.Reached (next .bookings)
+      → tells next → t ≡ withBookings before next → StateReached (t .state) × ToBookings tells before t
+  to-bookings tells {next = next} r h e =
+      (rw e (record { receiver = k .receiver; bookings = r }), record { next = next; holds = h; only = e })
 
   module _ (kind : ℕ) (body old new : List ℕ) where
-    abbrev Answers : Told → Type 0
+    abbrev Answers : StateLine → Type 0
     Answers t = StateReached (t .state) × Tells before kind body old new t
 
-    module _ {t : Told} {told : reports.Told} (r : receiver.Reached (told .receiver)) where
-      pub tells-0 : kind ≡ 0 → UnitTells (before .receiver) body old new told → t ≡ withReceiver before told → Answers t
+    module _ {t : StateLine} {next : reports.ReceiverLine} (r : receiver.Reached (next .receiver)) where
+      pub tells-0 : kind ≡ 0 → UnitTells (before .receiver) body old new next → t ≡ withReceiver before next → Answers t
       unfolding Tells
       tells-0 e h w = rw e (to-receiver (UnitTells (before .receiver) body old new) r h w)
 
-      pub tells-4 : kind ≡ 4 → ReportTells (before .receiver) body old new told → t ≡ withReceiver before told
+      pub tells-4 : kind ≡ 4 → ReportTells (before .receiver) body old new next → t ≡ withReceiver before next
           → Answers t
       unfolding Tells
       tells-4 e h w = rw e (to-receiver (ReportTells (before .receiver) body old new) r h w)
 
-    module _ {t : Told} {told : transport.Told} (r : bookings.Reached (told .bookings)) where
-      pub tells-11 : kind ≡ 11 → FreshTells old new told → t ≡ withBookings before told → Answers t
+    module _ {t : StateLine} {next : transport.BookingsLine} (r : bookings.Reached (next .bookings)) where
+      pub tells-11 : kind ≡ 11 → FreshTells old new next → t ≡ withBookings before next → Answers t
       unfolding Tells
       tells-11 e h w = rw e (to-bookings (FreshTells old new) r h w)
 
-      pub tells-12 : kind ≡ 12 → BookTells (before .bookings) body old new told → t ≡ withBookings before told
+      pub tells-12 : kind ≡ 12 → BookTells (before .bookings) body old new next → t ≡ withBookings before next
           → Answers t
       unfolding Tells
       tells-12 e h w = rw e (to-bookings (BookTells (before .bookings) body old new) r h w)
@@ -86,14 +88,16 @@ either-fits true f g x = f x
 either-fits false f g x = g x
 
 module _ (body old new : List ℕ) {n : ℕ} where
-  unit-fits : (r : Receiver) (t : reports.Told) → t .line ≡ Bytes n → UnitTells r body old new t → n ≤ length new
+  unit-fits : (r : Receiver) (t : reports.ReceiverLine) → t .line ≡ Bytes n → UnitTells r body old new t
+      → n ≤ length new
   unfolding UnitTells
   unit-fits r t e =
       either-fits (leb 12 (length body))
       (λ x. line-fits old (some (unitText (freshIn body .fault))) new e (x .0))
       (λ x. line-fits old none new e (x .0))
 
-  report-fits : (r : Receiver) (t : reports.Told) → t .line ≡ Bytes n → ReportTells r body old new t → n ≤ length new
+  report-fits : (r : Receiver) (t : reports.ReceiverLine) → t .line ≡ Bytes n → ReportTells r body old new t
+      → n ≤ length new
   unfolding ReportTells
   report-fits r t e =
       either-fits (leb 5 (length body))
@@ -102,11 +106,12 @@ module _ (body old new : List ℕ) {n : ℕ} where
       (λ x. line-fits old unknownLine new e (x .0)))
       (λ x. line-fits old none new e (x .0))
 
-  fresh-fits : (t : transport.Told) → t .line ≡ Bytes n → FreshTells old new t → n ≤ length new
+  fresh-fits : (t : transport.BookingsLine) → t .line ≡ Bytes n → FreshTells old new t → n ≤ length new
   unfolding FreshTells
   fresh-fits t e x = line-fits old (some freshText) new e (x .0)
 
-  book-fits : (b : Bookings) (t : transport.Told) → t .line ≡ Bytes n → BookTells b body old new t → n ≤ length new
+  book-fits : (b : Bookings) (t : transport.BookingsLine) → t .line ≡ Bytes n → BookTells b body old new t
+      → n ≤ length new
   book-fits b t e x = fits-when (leb 17 (length body)) refl
     where
       fits-when : (d : Bool) → leb 17 (length body) ≡ d → n ≤ length new
@@ -115,18 +120,19 @@ module _ (body old new : List ℕ) {n : ℕ} where
           line-fits old (some (bookText (c .reply .booked))) new e (c .said)
       fits-when false h = line-fits old none new e (x .short (leb-false 17 (length body) h) .0)
 
-  prints-fits : (line : Option (List ℕ)) (before : State) (t : Told) → t .line ≡ Bytes n → Prints line before old new t
+  prints-fits : (line : Option (List ℕ)) (before : State) (t : StateLine) → t .line ≡ Bytes n
+      → OnlyPrints line before old new t
       → n ≤ length new
   prints-fits line before t e x = line-fits old line new e (x .says)
 
-  pub told-fits : (before : State) (kind : ℕ) (t : Told) → t .line ≡ Bytes n → Tells before kind body old new t
+  pub told-fits : (before : State) (kind : ℕ) (t : StateLine) → t .line ≡ Bytes n → Tells before kind body old new t
       → n ≤ length new
   unfolding Tells
   told-fits before kind t e =
-      either-fits (eqb kind 0) (λ x. unit-fits (before .receiver) (x .told) (rw (x .only) at e) (x .holds))
-      (either-fits (eqb kind 4) (λ x. report-fits (before .receiver) (x .told) (rw (x .only) at e) (x .holds))
+      either-fits (eqb kind 0) (λ x. unit-fits (before .receiver) (x .next) (rw (x .only) at e) (x .holds))
+      (either-fits (eqb kind 4) (λ x. report-fits (before .receiver) (x .next) (rw (x .only) at e) (x .holds))
       (either-fits (eqb kind 9) (prints-fits (readLine body) before t e)
       (either-fits (eqb kind 10) (prints-fits (buildLine body) before t e)
-      (either-fits (eqb kind 11) (λ x. fresh-fits (x .told) (rw (x .only) at e) (x .holds))
-      (either-fits (eqb kind 12) (λ x. book-fits (before .bookings) (x .told) (rw (x .only) at e) (x .holds))
+      (either-fits (eqb kind 11) (λ x. fresh-fits (x .next) (rw (x .only) at e) (x .holds))
+      (either-fits (eqb kind 12) (λ x. book-fits (before .bookings) (x .next) (rw (x .only) at e) (x .holds))
       (prints-fits (recordLine kind body) before t e))))))

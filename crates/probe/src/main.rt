@@ -1,23 +1,26 @@
 // Makes the calls that records on standard input name, and prints each answer whole, a line for each record.
 //
-// A record is two bytes length of what follows, two bytes kind, body; numbers have their low byte first. Numbers are printed in decimal with
-// one space between.
+// A record is two bytes length of what follows, two bytes kind, body; numbers have their low byte first. Numbers are
+// printed in decimal with one space between.
 //     0 settings           individual 4, group 4, MNI 4
 //         unit FAULT
-//     4 report             frame 1, slot 1, kind 1 (1 nothing, 2 SCH/S and SCH/H, 3 SCH/F), buffer length 2 (at most 1,024), blocks: the rest
+//     4 report             frame 1, slot 1, kind 1 (1 nothing, 2 SCH/S and SCH/H, 3 SCH/F), buffer length 2 (at most
+//                          1,024), blocks: the rest
 //         report OUTCOME DROPPED FAULT BITS DTYPE DEST STYPE SRC MNI TYPE WIDTH ELEMENTS HEX REST
-//     5 build              system 1, A/B 1, slot 1, frame 1, countdown 1, destination type 1, destination 4, source type 1, source 4,
-//                          MNI 4, message type 1, width 1, elements 8, n 4, output length 2 (at most 1,024), message: the rest
+//     5 build              system 1, A/B 1, slot 1, frame 1, countdown 1, destination type 1, destination 4, source
+//                          type 1, source 4, MNI 4, message type 1, width 1, elements 8, n 4, output length 2 (at
+//                          most 1,024), message: the rest
 //         build FAULT K HEX REST
 //     6 read header        length of SCH/S 1, length of SCH/H 1, the two blocks
-//         header FAULT SYSTEM AB SLOT FRAME FRAG COUNT COUNTDOWN DTYPE DEST STYPE SRC MNI TYPE WIDTH ELEMENTS FIRST BITS
+//         header FAULT SYSTEM AB SLOT FRAME FRAG COUNT COUNTDOWN DTYPE DEST STYPE SRC MNI TYPE WIDTH ELEMENTS
+//             FIRST BITS
 //     7 read continuation  the block
 //         block FAULT LAST FIRST BITS
 //     8 layout             X 1, F 1, i 1
 //         frame FAULT FRAME
 //     9 read transport     message type 1, elements 8, n 4, message: the rest
-//         transport FAULT KIND ADDRESSED CMNI CSSI PROTOCOL REQUEST SHORT ACKREQ STORAGE STATUS REFERENCE VALIDITY FTYPE
-//             FADDRESS FIRST BITS
+//         transport FAULT KIND ADDRESSED CMNI CSSI PROTOCOL REQUEST SHORT ACKREQ STORAGE STATUS REFERENCE VALIDITY
+//             FTYPE FADDRESS FIRST BITS
 //    10 build transport    message type 1, FCS flag 1, addressed 1, caller's MNI 4, caller's SSI 4, kind 1, protocol 1,
 //                          request 1, short form 1, ack required 1, storage 1, status 1, reference 1, validity 1,
 //                          forward type 1, forward address 8, n 4, output length 2 (at most 1,024), user data: the rest
@@ -26,17 +29,20 @@
 //         bookings
 //    12 book               source 4, message type 1, elements 8, n 4, message: the rest
 //         book FAULT MARK KIND REFERENCE
-// Settings make the receiver a fresh one, and so does the start, with three zeros; a report goes to the receiver that the record before left.
+// Settings make the receiver a fresh one, and so does the start, with three zeros; a report goes to the receiver that
+// the record before left.
 // Kind 11 makes the bookings fresh ones, and so does the start; kind 12 books in those that the record before left.
-// The buffer of a report and the output of a build are filled with 5A (hexadecimal) before the call. HEX is what was written, two lower case
-// digits for each byte: the first (BITS + 7) / 8 of the buffer or of the output of kind 10, 24 + 34 K of the output of
-// kind 5; `-` for none. REST is 1 if every later byte is still 5A, else 0.
-// KIND is 1 transfer, 2 report, 3 ack, 4 short report, 0 refused. ADDRESSED is 1 with a calling party, whose MNI and SSI
-// are CMNI and CSSI. STATUS is the delivery status, of a short report its type. FADDRESS is the forward address as one
-// number: SSI, or SSI times 2^24 and the extension. FIRST and BITS are the user data's. MARK is 0 nothing to book, 1
-// booked, 2 again. What a message does not have is 0. Of the elements of kinds 9 and 12 the last bit alone counts.
-// What a body has more than its kind takes is left alone. Another kind, or a buffer or an output above 1,024, prints `kind`, and is skipped. A
-// record that is cut off, has a length below 2 or a body above 4,096 bytes, or is shorter than its kind, prints `cut`, and nothing is read after it.
+// The buffer of a report and the output of a build are filled with 5A (hexadecimal) before the call. HEX is what was
+// written, two lower case digits for each byte: the first (BITS + 7) / 8 of the buffer or of the output of kind 10,
+// 24 + 34 K of the output of kind 5; `-` for none. REST is 1 if every later byte is still 5A, else 0.
+// KIND is 1 transfer, 2 report, 3 ack, 4 short report, 0 refused. ADDRESSED is 1 with a calling party, whose MNI and
+// SSI are CMNI and CSSI. STATUS is the delivery status, of a short report its type. FADDRESS is the forward address
+// as one number: SSI, or SSI times 2^24 and the extension. FIRST and BITS are the user data's. MARK is 0 nothing to
+// book, 1 booked, 2 again. What a message does not have is 0. Of the elements of kinds 9 and 12 the last bit alone
+// counts.
+// What a body has more than its kind takes is left alone. Another kind, or a buffer or an output above 1,024, prints
+// `kind`, and is skipped. A record that is cut off, has a length below 2 or a body above 4,096 bytes, or is shorter
+// than its kind, prints `cut`, and nothing is read after it.
 ghost use mathlib.Core.Path.{_≡_};
 ghost use Prim.Native.Nat.{_≤_};
 ghost use lib.ListN.{length};
@@ -54,7 +60,7 @@ struct State {
 }
 
 // What is kept after a record, and the record's line.
-struct Told {
+struct StateLine {
     state: State,
     line: Line,
 }
@@ -65,34 +71,34 @@ struct Step {
     more: bool,
 }
 
-// With the receiver that was told.
-fn with_receiver(before: State, told: probe_reports::Told) -> Told
-    ensures { λ t. ⌜ t ≡ withReceiver before told ⌝ }
+// With the receiver after a record.
+fn with_receiver(before: State, after: probe_reports::ReceiverLine) -> StateLine
+    ensures { λ t. ⌜ t ≡ withReceiver before after ⌝ }
 {
-    let receiver = told.receiver;
+    let receiver = after.receiver;
     let bookings = before.bookings;
-    let line = told.line;
-    Told {
+    let line = after.line;
+    StateLine {
         state: State { receiver, bookings },
         line,
     }
 }
 
-// With the bookings that were told.
-fn with_bookings(before: State, told: probe_transport::Told) -> Told
-    ensures { λ t. ⌜ t ≡ withBookings before told ⌝ }
+// With the bookings after a record.
+fn with_bookings(before: State, after: probe_transport::BookingsLine) -> StateLine
+    ensures { λ t. ⌜ t ≡ withBookings before after ⌝ }
 {
     let receiver = before.receiver;
-    let bookings = told.bookings;
-    let line = told.line;
-    Told {
+    let bookings = after.bookings;
+    let line = after.line;
+    StateLine {
         state: State { receiver, bookings },
         line,
     }
 }
 
 // The line of any record, and what is kept after it.
-fn tell(before: State, kind: u16, body: &[u8], line: &mut [u8]) -> Told
+fn tell(before: State, kind: u16, body: &[u8], line: &mut [u8]) -> StateLine
     requires { ⌜ StateReached before × (4096 ≤ length (now line)) ⌝ }
     ensures { λ t. ⌜ StateReached (t .state)
         × Tells before kind (now (body .entry)) (now (line .entry)) (now (line .exit)) t ⌝ }
@@ -102,17 +108,17 @@ fn tell(before: State, kind: u16, body: &[u8], line: &mut [u8]) -> Told
     match kind {
         0 => with_receiver(before, probe_reports::unit(receiver, body, line)),
         4 => with_receiver(before, probe_reports::report(receiver, body, line)),
-        9 => Told {
+        9 => StateLine {
             state: before,
             line: probe_transport::read(body, line),
         },
-        10 => Told {
+        10 => StateLine {
             state: before,
             line: probe_transport::build(body, line),
         },
         11 => with_bookings(before, probe_transport::fresh(line)),
         12 => with_bookings(before, probe_transport::book(bookings, body, line)),
-        _ => Told {
+        _ => StateLine {
             state: before,
             line: probe_blocks::answer(kind, body, line),
         },
@@ -120,14 +126,14 @@ fn tell(before: State, kind: u16, body: &[u8], line: &mut [u8]) -> Told
 }
 
 // Answers a record.
-fn answered(before: State, kind: u16, body: &[u8]) -> Step
+fn answer_record(before: State, kind: u16, body: &[u8]) -> Step
     requires { ⌜ StateReached before ⌝ }
     ensures { λ s. ⌜ StateReached (s .state) × Kept before kind (now (body .entry)) (s .state) ⌝ }
 {
     let mut out = [0u8; 4096];
-    let told = tell(before, kind, body, &mut out);
-    let state = told.state;
-    let said = told.line;
+    let after = tell(before, kind, body, &mut out);
+    let state = after.state;
+    let said = after.line;
     let Line::Bytes(n) = said else {
         return Step {
             state,
@@ -146,7 +152,7 @@ fn next(before: State) -> Step
 {
     let mut body = io::buffer();
     match lines::input::take(&mut body) {
-        Taken::Record(kind, n) => answered(before, kind, &body[..n]),
+        Taken::Record(kind, n) => answer_record(before, kind, &body[..n]),
         Taken::Cut => Step {
             state: before,
             more: line::cut(),
@@ -158,7 +164,8 @@ fn next(before: State) -> Step
     }
 }
 
-// A proved loop has to end, and nothing says that the input does: the turns are counted down from more than a run takes.
+// A proved loop has to end, and nothing says that the input does: the turns are counted down from more than a run
+// takes.
 fn main() {
     let fresh = Receiver::fresh(0, 0, 0);
     let receiver = fresh.receiver;

@@ -24,7 +24,7 @@ unfolding buildOf
 written-inside y c g n bytes lent = inside-when (buildFault y c g n bytes lent) refl
   where
     inside-when : (f : ℕ) → buildFault y c g n bytes lent ≡ f → writtenBy (builtAs f (blocksFor g n)) ≤ lent
-    inside-when zero e = in-range y c g n bytes lent e .room
+    inside-when zero e = in-range y c g n bytes lent e .blocks .room
     inside-when (suc f) e = rw (ne-eqb (suc f) 0 (λ z. omega arith)) (omega arith)
 
 pub build-short : (old body : List ℕ) → length body < 35 → Says old (buildLine body) old Short
@@ -36,14 +36,21 @@ module _ (body : List ℕ) (h : 35 ≤ length body) where
   unfolding buildLine
   build-kind g = rw (le-leb 35 (length body) h, lt-leb (lentIn body) 1024 g) refl
 
-  pub build-said : (old : List ℕ) {new : List ℕ} {n : ℕ} → lentIn body ≤ 1024 → Stands old (builtText body (take (lentIn body) (replicate 1024 90))) new n → Says old (buildLine body) new (Bytes n)
+  pub build-said : (old : List ℕ) {new : List ℕ} {n : ℕ} → lentIn body ≤ 1024
+      → Stands old (builtText body (take (lentIn body) (replicate 1024 90))) new n
+      → Says old (buildLine body) new (Bytes n)
   unfolding buildLine
-  build-said old g w = rw (le-leb 35 (length body) h, le-leb (lentIn body) 1024 g) (rw (take-same (lentIn body) 1024 90 g) at w)
+  build-said old g w =
+      rw (le-leb 35 (length body) h, le-leb (lentIn body) 1024 g) (rw (take-same (lentIn body) 1024 90 g) at w)
 
-  pub built-said : (old out : List ℕ) {new after : List ℕ} {y : Sync} {g : Fields} {b : Built} {n r : ℕ} → y ≡ syncIn body → g ≡ fieldsIn body → n ≡ nIn body
-      → let m = take (length body - 35) (drop 35 body) in b ≡ buildOf y (countdownIn body) g n (length m) (length out) → after ≡ outOf y (countdownIn body) g n m out
+  pub built-said : (old out : List ℕ) {new after : List ℕ} {y : Sync} {g : Fields} {b : Built} {n r : ℕ}
+      → y ≡ syncIn body → g ≡ fieldsIn body → n ≡ nIn body
+      → let m =
+      take (length body - 35) (drop 35 body) in
+      b ≡ buildOf y (countdownIn body) g n (length m) (length out) → after ≡ outOf y (countdownIn body) g n m out
       → Stands old (buildText b after) new r → Stands old (builtText body out) new r
   unfolding builtText
   built-said old out p q s e z w =
-      let t : take (length body - 35) (drop 35 body) ≡ drop 35 body = take-all (length body - 35) (drop 35 body) (rw (length-drop 35 body) (omega arith)) in
+      let t : take (length body - 35) (drop 35 body) ≡ drop 35 body =
+      take-all (length body - 35) (drop 35 body) (rw (length-drop 35 body) (omega arith)) in
       rw (e, z, p, q, s, t) at w

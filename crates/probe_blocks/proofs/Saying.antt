@@ -16,7 +16,8 @@ use Rattle.lines.specs.declared.line.Line.the-variants.{Bytes, Short}
 use Rattle.probe_blocks.specs.Calls.{headerText, blockText, frameText}
 use Rattle.probe_blocks.specs.Calls.{buildLine, headerLine, blockLine, frameLine, recordLine}
 
-pub block-said : (old body : List ℕ) {new : List ℕ} {b : Continuation} {n : ℕ} → b ≡ readContinuation body → Stands old (blockText b) new n → Says old (blockLine body) new (Bytes n)
+pub block-said : (old body : List ℕ) {new : List ℕ} {b : Continuation} {n : ℕ} → b ≡ readContinuation body
+    → Stands old (blockText b) new n → Says old (blockLine body) new (Bytes n)
 unfolding blockLine
 block-said old body e w = rw e at w
 
@@ -24,7 +25,9 @@ pub frame-short : (old body : List ℕ) → length body < 3 → Says old (frameL
 unfolding frameLine
 frame-short old body h = rw (lt-leb 3 (length body) h) refl
 
-pub frame-said : (old body : List ℕ) {new : List ℕ} {d : Due} {n : ℕ} → 3 ≤ length body → d ≡ dueOf (getD body 0 0) (getD body 1 0) (getD body 2 0) → Stands old (frameText d) new n → Says old (frameLine body) new (Bytes n)
+pub frame-said : (old body : List ℕ) {new : List ℕ} {d : Due} {n : ℕ} → 3 ≤ length body
+    → d ≡ dueOf (getD body 0 0) (getD body 1 0) (getD body 2 0) → Stands old (frameText d) new n
+    → Says old (frameLine body) new (Bytes n)
 unfolding frameLine
 frame-said old body h e w = rw (le-leb 3 (length body) h) (rw e at w)
 
@@ -35,8 +38,10 @@ pub header-short : (old body : List ℕ) → length body < endOf body → Says o
 unfolding headerLine
 header-short old body h = rw (lt-leb (endOf body) (length body) h) refl
 
-pub header-said : (old body : List ℕ) (at end : ℕ) {new : List ℕ} {h : Header} {n : ℕ} → at ≡ 2 + getD body 0 0 → end ≡ at + getD body 1 0 → end ≤ length body
-    → h ≡ readHeader (take (at - 2) (drop 2 body)) (take (end - at) (drop at body)) → Stands old (headerText h) new n → Says old (headerLine body) new (Bytes n)
+pub header-said : (old body : List ℕ) (at end : ℕ) {new : List ℕ} {h : Header} {n : ℕ} → at ≡ 2 + getD body 0 0
+    → end ≡ at + getD body 1 0 → end ≤ length body
+    → h ≡ readHeader (take (at - 2) (drop 2 body)) (take (end - at) (drop at body)) → Stands old (headerText h) new n
+    → Says old (headerLine body) new (Bytes n)
 unfolding headerLine
 header-said old body at end p q l e w =
     let s : at - 2 ≡ getD body 0 0 = omega arith in
@@ -62,6 +67,7 @@ module _ (kind : ℕ) (body : List ℕ) where
   unfolding recordLine
   line-8 e = rw e refl
 
-  pub line-other : (kind ≡ 5 → ⊥) → (kind ≡ 6 → ⊥) → (kind ≡ 7 → ⊥) → (kind ≡ 8 → ⊥) → recordLine kind body ≡ unknownLine
+  pub line-other : (kind ≡ 5 → ⊥) → (kind ≡ 6 → ⊥) → (kind ≡ 7 → ⊥) → (kind ≡ 8 → ⊥)
+      → recordLine kind body ≡ unknownLine
   unfolding recordLine
   line-other a b c d = rw (ne-eqb kind 5 a, ne-eqb kind 6 b, ne-eqb kind 7 c, ne-eqb kind 8 d) refl

@@ -1,5 +1,6 @@
--- The numbers of a record's body, the lowest byte first, and the fields of a build's: system code, A/B usage, slot, frame and countdown; destination type and
--- destination, source type and source; MNI; message type, width and elements; n; the output's length; the message.
+-- The numbers of a record's body, the lowest byte first, and the fields of a build's: system code, A/B usage, slot,
+-- frame and countdown; destination type and destination, source type and source; MNI; message type, width and elements;
+-- n; the output's length; the message.
 use mathlib.Core.List.{List}
 use Prim.Native.Nat.{ℕ, _+_, _*_}
 use lib.ListN.{getD, drop}

@@ -18,7 +18,8 @@ use Rattle.probe_blocks.specs.Body.{syncIn, countdownIn, fieldsIn, nIn, 
 
 -- ---- The lines.
 
--- A build: `build`, its fault and number of blocks, and the output afterwards, of which SCH/S, SCH/H and the blocks were written; refused, nothing.
+-- A build: `build`, its fault and number of blocks, and the output afterwards, of which SCH/S, SCH/H and the blocks
+-- were written; refused, nothing.
 abbrev pub writtenBy : Built → ℕ
 writtenBy b = cond (eqb (b .fault) 0) (24 + 34 * b .blocks) 0
 
@@ -71,14 +72,17 @@ builtText body out =
     buildText (buildOf y c g n (length m) (length out)) (outOf y c g n m out)
 
 unfoldable pub buildLine : List ℕ → Option (List ℕ)
-buildLine body = fromBody (leb 35 (length body)) (cond (leb (lentIn body) 1024) (builtText body (replicate (lentIn body) 90)) kindText)
+buildLine body =
+    fromBody (leb 35 (length body))
+    (cond (leb (lentIn body) 1024) (builtText body (replicate (lentIn body) 90)) kindText)
 
 -- The lengths of SCH/S and SCH/H, and the two blocks.
 unfoldable pub headerLine : List ℕ → Option (List ℕ)
 headerLine body =
     let s = getD body 0 0 in
     let h = getD body 1 0 in
-    fromBody (leb (2 + s + h) (length body)) (headerText (readHeader (take s (drop 2 body)) (take h (drop (2 + s) body))))
+    fromBody (leb (2 + s + h) (length body))
+    (headerText (readHeader (take s (drop 2 body)) (take h (drop (2 + s) body))))
 
 -- The block.
 unfoldable pub blockLine : List ℕ → Option (List ℕ)

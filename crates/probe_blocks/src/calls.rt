@@ -19,7 +19,8 @@ fn index(x: u8) -> usize
 // A build into this output.
 fn built(body: &[u8], out: &mut [u8], line: &mut [u8]) -> usize
     requires { ⌜ (35 ≤ length (now body)) × (length (now out) ≤ 1024) × (4096 ≤ length (now line)) ⌝ }
-    ensures { λ r. ⌜ Stands (now (line .entry)) (builtText (now (body .entry)) (now (out .entry))) (now (line .exit)) r ⌝ }
+    ensures { λ r. ⌜ Stands (now (line .entry)) (builtText (now (body .entry)) (now (out .entry))) (now (line .exit))
+        r ⌝ }
 {
     let sync = body::sync(body);
     let fields = body::fields(body);

@@ -7,7 +7,7 @@ use Prim.Native.Nat.{ℕ, _+_, _/_}
 use lib.Dec.{leb}
 use lib.ListN.{length, drop, getD, replicate}
 use Rattle.reports.specs.Lent.{Lent, lent}
-use Rattle.receiver.specs.Held.{freshOf}
+use Rattle.receiver.specs.View.{freshOf}
 use Rattle.receiver.specs.Reached.{Hears}
 use Rattle.receiver.specs.declared.Receiver.{Receiver}
 use Rattle.receiver.specs.declared.Reply.{Reply}
@@ -15,7 +15,7 @@ use Rattle.receiver.specs.declared.Fresh.{Fresh}
 use Rattle.receiver.specs.declared.answer.Answer.{Answer}
 use Rattle.records.specs.Numbers.{twoAt, fourAt}
 use Rattle.lines.specs.Lines.{lineOf, lineWith, unknownLine, Says}
-use Rattle.probe_reports.specs.declared.Told.{Told}
+use Rattle.probe_reports.specs.declared.ReceiverLine.{ReceiverLine}
 
 -- ---- The lines.
 
@@ -53,16 +53,17 @@ Either true a b = a
 Either false a b = b
 
 -- Nothing is called that gives another receiver.
-abbrev pub Same : Receiver → Option (List ℕ) → List ℕ → List ℕ → Told → Type 0
+abbrev pub Same : Receiver → Option (List ℕ) → List ℕ → List ℕ → ReceiverLine → Type 0
 Same before line old new t = Says old line new (t .line) × (t .receiver ≡ before)
 
 -- The individual address, the group address and the MNI: the receiver is a fresh one.
 abbrev pub freshIn : List ℕ → Fresh
 freshIn body = freshOf (fourAt body 0) (fourAt body 4) (fourAt body 8)
 
-unfoldable pub UnitTells : Receiver → List ℕ → List ℕ → List ℕ → Told → Type 0
+unfoldable pub UnitTells : Receiver → List ℕ → List ℕ → List ℕ → ReceiverLine → Type 0
 UnitTells before body old new t =
-    Either (leb 12 (length body)) (Says old (some (unitText (freshIn body .fault))) new (t .line) × (t .receiver ≡ freshIn body .receiver))
+    Either (leb 12 (length body))
+    (Says old (some (unitText (freshIn body .fault))) new (t .line) × (t .receiver ≡ freshIn body .receiver))
     (Same before none old new t)
 
 -- A report: frame, slot, kind, the buffer's length, the lent blocks.
@@ -72,8 +73,9 @@ lentIn body = lent (getD body 0 0) (getD body 1 0) (getD body 2 0) (drop 5 body)
 abbrev pub bufferIn : List ℕ → ℕ
 bufferIn body = twoAt body 3
 
--- It is heard, with this buffer for a message: the line is of a reply that `hear` promises, and the receiver is the reply's.
-pub record Heard (before : Receiver) (body buffer old new : List ℕ) (t : Told) : Type 0 where
+-- It is heard, with this buffer for a message: the line is of a reply that `hear` promises, and the receiver is the
+-- reply's.
+pub record HeardInto (before : Receiver) (body buffer old new : List ℕ) (t : ReceiverLine) : Type 0 where
   pub reply : Reply
   pub after : List ℕ
   pub hears : Hears before (lentIn body) reply buffer after
@@ -81,8 +83,9 @@ pub record Heard (before : Receiver) (body buffer old new : List ℕ) (t : Told)
   pub kept : t .receiver ≡ reply .receiver
 
 -- The buffer has as many bytes as the body says, at most 1,024, all 5A.
-unfoldable pub ReportTells : Receiver → List ℕ → List ℕ → List ℕ → Told → Type 0
+unfoldable pub ReportTells : Receiver → List ℕ → List ℕ → List ℕ → ReceiverLine → Type 0
 ReportTells before body old new t =
     Either (leb 5 (length body))
-    (Either (leb (bufferIn body) 1024) (Heard before body (replicate (bufferIn body) 90) old new t) (Same before unknownLine old new t))
+    (Either (leb (bufferIn body) 1024) (HeardInto before body (replicate (bufferIn body) 90) old new t)
+    (Same before unknownLine old new t))
     (Same before none old new t)

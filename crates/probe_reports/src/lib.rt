@@ -6,7 +6,7 @@ ghost use lib.ListN.{length};
 ghost use Rattle.receiver.specs.Reached.{Reached};
 ghost use Rattle.lines.specs.Lines.{Stands};
 ghost use Rattle.probe_reports.specs.Reports.{handedBy, answerNumbers, reportText, unitText};
-ghost use Rattle.probe_reports.specs.Reports.{Heard, UnitTells, ReportTells};
+ghost use Rattle.probe_reports.specs.Reports.{HeardInto, UnitTells, ReportTells};
 use lines::line::BEFORE;
 use lines::line::Line;
 use lines::line::line_of;
@@ -16,7 +16,7 @@ use receiver::Receiver;
 use receiver::answer::Answer;
 
 // The receiver after a record, and the record's line.
-pub struct Told {
+pub struct ReceiverLine {
     pub receiver: Receiver,
     pub line: Line,
 }
@@ -57,12 +57,13 @@ fn report_line(out: &mut [u8], a: Answer, s: &[u8]) -> usize
     line_with(out, b"report", &ns, s, (a.bits + 7) / 8)
 }
 
-pub fn unit(before: Receiver, body: &[u8], line: &mut [u8]) -> Told
+pub fn unit(before: Receiver, body: &[u8], line: &mut [u8]) -> ReceiverLine
     requires { ⌜ Reached before × (512 ≤ length (now line)) ⌝ }
-    ensures { λ t. ⌜ Reached (t .receiver) × UnitTells before (now (body .entry)) (now (line .entry)) (now (line .exit)) t ⌝ }
+    ensures { λ t. ⌜ Reached (t .receiver)
+        × UnitTells before (now (body .entry)) (now (line .entry)) (now (line .exit)) t ⌝ }
 {
     if body.len() < 12 {
-        return Told {
+        return ReceiverLine {
             receiver: before,
             line: Line::Short,
         };
@@ -73,39 +74,42 @@ pub fn unit(before: Receiver, body: &[u8], line: &mut [u8]) -> Told
         records::four(body, 8),
     );
     let receiver = fresh.receiver;
-    Told {
+    ReceiverLine {
         receiver,
         line: Line::Bytes(unit_line(line, fresh.fault)),
     }
 }
 
 // A report with this buffer for a message.
-fn heard(before: Receiver, body: &[u8], message: &mut [u8], line: &mut [u8]) -> Told
-    requires { ⌜ Reached before × (5 ≤ length (now body)) × (length (now message) ≤ 1024) × (4096 ≤ length (now line)) ⌝ }
-    ensures { λ t. ⌜ Reached (t .receiver) × Heard before (now (body .entry)) (now (message .entry)) (now (line .entry)) (now (line .exit)) t ⌝ }
+fn heard(before: Receiver, body: &[u8], message: &mut [u8], line: &mut [u8]) -> ReceiverLine
+    requires { ⌜ Reached before × (5 ≤ length (now body)) × (length (now message) ≤ 1024)
+        × (4096 ≤ length (now line)) ⌝ }
+    ensures { λ t. ⌜ Reached (t .receiver)
+        × HeardInto before (now (body .entry)) (now (message .entry)) (now (line .entry)) (now (line .exit)) t ⌝ }
 {
     let reply = before.hear(body[0], body[1], body[2], &body[5..], message);
     let after = reply.receiver;
     let answer = reply.answer;
-    Told {
+    ReceiverLine {
         receiver: after,
         line: Line::Bytes(report_line(line, answer, message)),
     }
 }
 
-pub fn report(before: Receiver, body: &[u8], line: &mut [u8]) -> Told
+pub fn report(before: Receiver, body: &[u8], line: &mut [u8]) -> ReceiverLine
     requires { ⌜ Reached before × (4096 ≤ length (now line)) ⌝ }
-    ensures { λ t. ⌜ Reached (t .receiver) × ReportTells before (now (body .entry)) (now (line .entry)) (now (line .exit)) t ⌝ }
+    ensures { λ t. ⌜ Reached (t .receiver)
+        × ReportTells before (now (body .entry)) (now (line .entry)) (now (line .exit)) t ⌝ }
 {
     if body.len() < 5 {
-        return Told {
+        return ReceiverLine {
             receiver: before,
             line: Line::Short,
         };
     }
     let lent = records::two_at(body, 3) as usize;
     if 1024 < lent {
-        return Told {
+        return ReceiverLine {
             receiver: before,
             line: unknown(line),
         };

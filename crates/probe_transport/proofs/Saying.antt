@@ -20,7 +20,7 @@ use Rattle.lines.specs.declared.line.Line.the-variants.{Bytes, Short}
 use Rattle.probe_transport.specs.Body.{fieldsIn, nIn}
 use Rattle.probe_transport.specs.Calls.{transportText, freshText, bookText, readLine}
 use Rattle.probe_transport.specs.Calls.{FreshTells, Called, BookTells}
-use Rattle.probe_transport.specs.declared.Told.{Told}
+use Rattle.probe_transport.specs.declared.BookingsLine.{BookingsLine}
 
 -- what a body has from a place on is lent whole
 pub rest-lent : (k : ℕ) (body : List ℕ) → take (length body - k) (drop k body) ≡ drop k body
@@ -57,6 +57,6 @@ module _ (before : Bookings) (old body : List ℕ) where
   pub book-short : length body < 17 → BookTells before body old old (record { bookings = before; line = Short })
   book-short h = record { called = λ g. absurd (omega arith); short = λ g. (refl, refl) }
 
-  pub book-said : {new : List ℕ} {t : Told} {source : ℕ} → 17 ≤ length body → source ≡ fourAt body 0
+  pub book-said : {new : List ℕ} {t : BookingsLine} {source : ℕ} → 17 ≤ length body → source ≡ fourAt body 0
       → Called before source (take (length body - 4) (drop 4 body)) old new t → BookTells before body old new t
   book-said h e k = record { called = λ g. rw (e, rest-lent 4 body) at k; short = λ g. absurd (omega arith) }

@@ -20,7 +20,7 @@ use Rattle.records.specs.Numbers.{fourAt}
 use Rattle.lines.specs.Lines.{lineOf, lineWith, fromBody, kindText, Says}
 use Rattle.probe_transport.specs.Body.{fieldsIn, nIn, sduIn, lentIn}
 use Rattle.probe_transport.specs.Body.{carrierIn, flagIn, messageIn, userBitsIn, outputIn, userIn}
-use Rattle.probe_transport.specs.declared.Told.{Told}
+use Rattle.probe_transport.specs.declared.BookingsLine.{BookingsLine}
 
 -- ---- The lines.
 
@@ -93,11 +93,11 @@ buildLine body =
 -- ---- What a body makes of the bookings and prints.
 
 -- The bookings are fresh ones.
-unfoldable pub FreshTells : List ℕ → List ℕ → Told → Type 0
+unfoldable pub FreshTells : List ℕ → List ℕ → BookingsLine → Type 0
 FreshTells old new t = Says old (some freshText) new (t .line) × (t .bookings ≡ bookingsAt start)
 
 -- A message from this source: the line is of a reply that `book` promises, and the bookings are the reply's.
-pub record Called (before : Bookings) (source : ℕ) (body old new : List ℕ) (t : Told) : Type 0 where
+pub record Called (before : Bookings) (source : ℕ) (body old new : List ℕ) (t : BookingsLine) : Type 0 where
   pub reply : Reply
   pub books : Books before (lentIn source body) reply
   pub said : Says old (some (bookText (reply .booked))) new (t .line)
@@ -105,6 +105,6 @@ pub record Called (before : Bookings) (source : ℕ) (body old new : List ℕ) (
 
 -- The source, and then what a message is read of. A body that is too short prints nothing, and leaves the bookings
 -- alone.
-pub record BookTells (before : Bookings) (body old new : List ℕ) (t : Told) : Type 0 where
+pub record BookTells (before : Bookings) (body old new : List ℕ) (t : BookingsLine) : Type 0 where
   pub called : 17 ≤ length body → Called before (fourAt body 0) (drop 4 body) old new t
   pub short : length body < 17 → Says old none new (t .line) × (t .bookings ≡ before)

@@ -14,7 +14,7 @@ use lines::line::Line;
 use lines::line::unknown;
 
 // The bookings after a record, and the record's line.
-pub struct Told {
+pub struct BookingsLine {
     pub bookings: Bookings,
     pub line: Line,
 }
@@ -62,19 +62,19 @@ pub fn build(body: &[u8], line: &mut [u8]) -> Line
 }
 
 // Makes the bookings fresh ones.
-pub fn fresh(line: &mut [u8]) -> Told
+pub fn fresh(line: &mut [u8]) -> BookingsLine
     requires { ⌜ 512 ≤ length (now line) ⌝ }
     ensures { λ t. ⌜ Reached (t .bookings) × FreshTells (now (line .entry)) (now (line .exit)) t ⌝ }
 {
     let bookings = Bookings::fresh();
-    Told {
+    BookingsLine {
         bookings,
         line: Line::Bytes(text::copy(line, 0, b"bookings\n")),
     }
 }
 
 // Books a message that came from this source.
-fn booked(before: Bookings, source: u32, body: &[u8], line: &mut [u8]) -> Told
+fn booked(before: Bookings, source: u32, body: &[u8], line: &mut [u8]) -> BookingsLine
     requires { ⌜ Reached before × (13 ≤ length (now body)) × (512 ≤ length (now line)) ⌝ }
     ensures { λ t. ⌜ Reached (t .bookings)
         × Called before source (now (body .entry)) (now (line .entry)) (now (line .exit)) t ⌝ }
@@ -84,20 +84,20 @@ fn booked(before: Bookings, source: u32, body: &[u8], line: &mut [u8]) -> Told
     let reply = before.book(fields, n, &body[13..]);
     let after = reply.bookings;
     let answer = reply.booked;
-    Told {
+    BookingsLine {
         bookings: after,
         line: Line::Bytes(print::book(line, answer)),
     }
 }
 
 // Books a message.
-pub fn book(before: Bookings, body: &[u8], line: &mut [u8]) -> Told
+pub fn book(before: Bookings, body: &[u8], line: &mut [u8]) -> BookingsLine
     requires { ⌜ Reached before × (512 ≤ length (now line)) ⌝ }
     ensures { λ t. ⌜ Reached (t .bookings)
         × BookTells before (now (body .entry)) (now (line .entry)) (now (line .exit)) t ⌝ }
 {
     if body.len() < 17 {
-        return Told {
+        return BookingsLine {
             bookings: before,
             line: Line::Short,
         };

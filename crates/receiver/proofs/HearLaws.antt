@@ -1,163 +1,204 @@
--- The receiver that has heard a list of accepted reports, and its answer to one more. Assumes nothing.
-use mathlib.Core.Path.{_≡_, refl, sym, ap, _∙_}
-use mathlib.Core.Bool.{Bool, true, false, cond, _||_}
-use mathlib.Core.List.{List}
-use mathlib.Core.Option.{Option, none, some}
-use Prim.Native.Nat.{ℕ, suc, _≤_}
+-- What the code makes of an accepted report is what the step makes of it, and so what the history asks for. Assumes
+-- nothing.
+use mathlib.Core.Path.{_≡_, refl, sym, ap, ap₂, _∙_, subst}
+use mathlib.Core.Bool.{Bool, true, false, cond}
+use mathlib.Core.List.{List, [], _++_}
+use Prim.Native.Nat.{ℕ, suc, _+_, _≤_, _<_}
 use native.Mathlib.Omega.{arith}
-use lib.Dec.{eqb, leb}
-use lib.ListN.{length, take, drop}
-use borrow.Author.Tests.{eqb-true, eqb-false, leb-true}
-use Rattle.store.specs.Store.{handed}
-use Rattle.blocks.specs.Continuation.{readContinuation}
-use Rattle.blocks.proofs.FaultLaws.{all-zero, holds}
-use Rattle.history.specs.Line.{Line, start, _▸_, Every}
-use Rattle.history.specs.Slots.{Heard, nothing, Report}
+use lib.Dec.{eqb}
+use lib.ListN.{length}
+use borrow.Author.Tests.{eqb-true, eqb-false}
+use Rattle.store.specs.Store.{storeOf, handed}
+use Rattle.history.specs.Line.{Line, start, _▸_}
+use Rattle.history.specs.Slots.{due, Heard, Report, header-in, more-in, countdown-in, bits-in}
 use Rattle.history.specs.History.{History}
-use Rattle.history.specs.Step.{Open, State, message-of, in-turn, still, ends-here, drop-mark, telling, step, answer, after, outcome-at, dropped-at}
-use Rattle.reports.specs.Lent.{Lent, brought, heardSlot, reportRules, headerIn, headerHeard, blockHeard, heard, faultIn}
-use Rattle.reports.specs.Units.{settingsFit}
-use Rattle.reports.specs.declared.unit.Settings.{Settings}
-use Rattle.receiver.specs.Held.{passedBy, nothingIn, lostAt, newReceiver}
-use Rattle.receiver.specs.Taken.{headerTo, headerOver, blockTo, blockOver, takenBy, takenOver, repliedBy, repliedOver}
-use Rattle.receiver.specs.View.{assemblyOf, receiverOf, answerOf, replyOf}
-use Rattle.receiver.specs.Reached.{reportOf, reports, refusedWith, Accepted, Leads, Reached, Canonical, closed, assembling, Answered, Hears}
+use Rattle.history.specs.Step as step
+use Rattle.history.specs.Step.{State, message-of, in-turn, older-near, older-run, broken-off, judge}
+use Rattle.history.specs.Step.{near-of, opening, run-after, joined-after, outcome-of, aged, verdict-at, answer, after}
+use Rattle.history.specs.Step.{quiet, is-held, is-due, on-nothing, passed, outcome-at, dropped-at}
 use Rattle.history.specs.declared.Place.{Place}
+use Rattle.history.specs.declared.Near.{Near}
+use Rattle.history.specs.declared.Open.{Open}
+use Rattle.history.specs.declared.Verdict.{Verdict}
+use Rattle.history.specs.declared.What.the-variants.{Nothing}
+use Rattle.history.proofs.Verdicts.{Hands, no-hand, hand, Comes, passing, missing, keeping, closing, heading, comes}
+use Rattle.history.proofs.Bounds.{Small}
+use Rattle.history.proofs.Theorems.{theorem-told, theorem-dropped}
+use Rattle.reports.specs.Lent.{Lent, Event, heard, faultIn}
+use Rattle.reports.specs.Turns.{follows}
+use Rattle.reports.specs.Units.{unit, settingsFit}
+use Rattle.reports.specs.Reading.{broughtOf, headless, Reads}
+use Rattle.reports.proofs.Counting.{and-false}
+use Rattle.reports.specs.declared.unit.Settings.{Settings}
+use Rattle.reports.specs.declared.read.Brought.{Brought}
+use Rattle.receiver.specs.View.{receiverOf, newReceiver, answerOf, plainAnswer, broughtBits, Counted}
+use Rattle.receiver.specs.View.{Stored, Tells, Told, noPlace, Brings}
+use Rattle.receiver.specs.Reached.{reportOf, reports, refusedWith, Accepted, Leads, Reached, Answered, Hears}
+use Rattle.receiver.specs.declared.answer.Answer.{Answer}
 use Rattle.receiver.specs.declared.Receiver.{Receiver}
 use Rattle.receiver.specs.declared.Reply.{Reply}
-use Rattle.history.proofs.Theorems.{theorem-told, theorem-dropped}
-use Rattle.history.proofs.Bounds.{IsSmall, Sized, Framed, small-still, theorem-small}
-use Rattle.receiver.proofs.Rooms.{Roomy}
-use Rattle.receiver.proofs.ViewLaws.{place, Named, follows-is}
-use Rattle.receiver.proofs.ReplyLaws.{handed-none, nothing-reply, agedState, aged-is}
-use Rattle.receiver.proofs.HeardLaws.{sized-header, sized-block, header-reply, header-over, block-reply, block-over}
+use Rattle.receiver.proofs.AcceptedLaws.{passes, last-named, follows-is, small, no-assembly-is}
+use Rattle.receiver.proofs.TellLaws.{handed-none}
 
--- ---- accepted reports
+abbrev place : Lent → Place
+place l = record { frame = l .frame; slot = l .slot }
 
-pub framed : (l : Lent) → Accepted l → Framed (place (l .frame) (l .slot))
-framed l a =
-    let z = all-zero (reportRules (l .frame) (l .slot) (l .kind) (length (l .blocks)) 512) a in
-    (leb-true 1 (l .frame) (holds (leb 1 (l .frame)) 14 (z .0)), leb-true (l .frame) 18 (holds (leb (l .frame) 18) 14 (z .1 .0)))
+-- ---- what is left of the record when a report comes
 
-slot-named : (a b : Bool) (slot : ℕ) → eqb slot 1 ≡ a → eqb slot 3 ≡ b → (a || b) ≡ true → 1 ≤ slot
-slot-named true b slot e f o = omega (arith, eqb-true slot 1 e)
-slot-named false true slot e f o = omega (arith, eqb-true slot 3 f)
-slot-named false false slot e f o = let z : _≡_ {A = ℕ} 0 1 = cc in absurd (omega arith)
+bits-left : (t : Bool) (j : List Bool) → cond t (length j) 0 ≡ length (cond t j [])
+bits-left true j = refl
+bits-left false j = refl
 
-named : (l : Lent) → Accepted l → 1 ≤ l .slot
-named l a =
-    let z = all-zero (reportRules (l .frame) (l .slot) (l .kind) (length (l .blocks)) 512) a in
-    slot-named (eqb (l .slot) 1) (eqb (l .slot) 3) (l .slot) refl refl (holds (heardSlot (l .slot)) 15 (z .1 .1 .0))
+store-left : (t : Bool) (j : List Bool) → cond t (storeOf j) (storeOf []) ≡ storeOf (cond t j [])
+store-left true j = refl
+store-left false j = refl
 
-pub last-named : (s : Settings) (ls : Line Lent) → Every Accepted ls → Named (after (reports s ls) .last)
-unfolding after step
-last-named s start a = tt
-last-named s (ls ▸ l) a = named l (a .1)
+module _ (s : Settings) (ls : Line Event) {before : Receiver} (k : Leads s ls before) (l : Lent) where
+  abbrev state : State
+  state = after (reports s ls)
 
-sized-when : (s : Settings) (l : Lent) (b c : Bool)
-    → Sized (cond b (headerHeard s (drop 8 (l .blocks)) (headerIn l)) (cond c (blockHeard (l .blocks) (readContinuation (l .blocks))) nothing))
-sized-when s l true c = sized-header s (l .frame) (l .slot) (take 8 (l .blocks)) (drop 8 (l .blocks))
-sized-when s l false true = sized-block (l .blocks)
-sized-when s l false false = tt
+  abbrev q : Place
+  q = place l
 
-pub sized : (s : Settings) (l : Lent) → Sized (heard s l)
-unfolding heard
-sized s l = sized-when s l (eqb (l .kind) 2) (eqb (l .kind) 3)
+  abbrev left : State
+  left = aged state q
 
-all-sized : (s : Settings) (ls : Line Lent) → Every Accepted ls → Every (λ r. Framed (r .place) × Sized (r .heard)) (reports s ls)
-all-sized s start a = tt
-all-sized s (ls ▸ l) a = (all-sized s ls (a .0), (framed l (a .1), sized s l))
+  module _ {turn : Bool} (t : turn ≡ follows (before .place) q) where
+    turn-is : turn ≡ in-turn (state .last) q
+    turn-is = t ∙ rw (k .there) (follows-is (state .last) q (last-named s ls (k .accepted)))
 
-pub small : (s : Settings) (ls : Line Lent) → Every Accepted ls → IsSmall (after (reports s ls) .assembly)
-small s ls a = theorem-small (reports s ls) (all-sized s ls a)
+    lost-is : broken-off turn (before .assembly .run) ≡ broken-off (in-turn (state .last) q) (state .assembly .run)
+    lost-is = rw (turn-is, k .there) refl
 
--- the room that the code needs
-roomy-when : (m : Option Open) → IsSmall m → Roomy (assemblyOf m)
-roomy-when none z = (omega arith, omega arith)
-roomy-when (some a) z = (omega (arith, z .blocks, z .slots), omega (arith, z .bits, z .blocks, z .slots))
+    run-is : older-run turn q (before .assembly .run) ≡ left .assembly .run
+    run-is = rw (turn-is, k .there) refl
 
-pub roomy : {r : Receiver} → Reached r → Roomy (r .assembly)
-roomy {r} k =
-    let l = k .leads in
-    rw (l .there) (roomy-when (after (reports (k .settings) (k .heard)) .assembly) (small (k .settings) (k .heard) (l .accepted)))
+    near-is : older-near turn q (before .nearest) ≡ left .near
+    near-is = rw (turn-is, k .there) refl
 
-canonical-when : (m : Option Open) → IsSmall m → Canonical (assemblyOf m)
-canonical-when none z = closed refl
-canonical-when (some a) z = assembling (a .joined) refl (z .blocks) (z .slots) refl (omega (arith, z .bits, z .blocks, z .slots)) refl
+    bits-is : cond turn (before .assembly .bits) 0 ≡ length (left .assembly .joined)
+    bits-is = rw (turn-is, k .there) (bits-left (in-turn (state .last) q) (state .assembly .joined))
 
-pub canonical : {r : Receiver} → Reached r → Canonical (r .assembly)
-canonical {r} k =
-    let l = k .leads in
-    rw (l .there) (canonical-when (after (reports (k .settings) (k .heard)) .assembly) (small (k .settings) (k .heard) (l .accepted)))
+    store-is : cond turn (before .assembly .store) (storeOf []) ≡ storeOf (left .assembly .joined)
+    store-is = rw (turn-is, k .there) (store-left (in-turn (state .last) q) (state .assembly .joined))
 
--- ---- one report more
+-- ---- what a report brings, by the fault that it is refused for
+
+pub brings-fault : {f : ℕ} (s : Settings) (l : Lent) → (f ≡ 0 → ⊥) → {x : Brought} → x ≡ headless Nothing f 0 0 → Brings f s l x
+brings-fault s l n e =
+    rw e
+    (record {
+      accepted = λ z. absurd (n z);
+      refused = λ _. refl;
+      inside = record { ordered = omega arith; within = omega arith; near = omega arith };
+      few = omega arith;
+      falls = omega arith;
+    })
+
+pub brings-read : {f : ℕ} {s : Settings} {l : Lent} → f ≡ 0 → {x : Brought} → Reads s l x → Brings f s l x
+brings-read z r =
+    record { accepted = λ _. r; refused = λ n. absurd (n z); inside = r .inside; few = r .few; falls = r .falls }
+
+-- ---- what the code asks for on the way
+
+older-small : (turn : Bool) (tick : Place) (a : Open) → (a .frame ≤ 18) × (a .countdown ≤ 3) × (a .kept ≤ 14)
+    → (let o = older-run turn tick a in (o .frame ≤ 18) × (o .countdown ≤ 3) × (o .kept ≤ 14))
+older-small true tick a h = h
+older-small false tick a h = (omega arith, omega arith, omega arith)
+
+fewer : (turn : Bool) (n : ℕ) → n + 264 ≤ 4096 → cond turn n 0 + 264 ≤ 4096
+fewer true n h = h
+fewer false n h = omega arith
+
+module _ {before : Receiver} (k : Reached before) (turn : Bool) where
+  kept-small : Small (after (reports (k .settings) (k .heard)) .assembly)
+  kept-small = small (k .settings) (k .heard) (k .leads .accepted)
+
+  pub run-small : (tick : Place) {run : Open} → run ≡ older-run turn tick (before .assembly .run)
+      → (run .frame ≤ 18) × (run .countdown ≤ 3) × (run .kept ≤ 14)
+  run-small tick e =
+      let z = kept-small in
+      rw (e, k .leads .there) (older-small turn tick _ (z .frame, z .falls, omega (arith, z .blocks, z .slots)))
+
+  pub bits-small : {bits : ℕ} → bits ≡ cond turn (before .assembly .bits) 0 → bits + 264 ≤ 4096
+  bits-small e =
+      let z = kept-small in
+      rw (e, k .leads .there) (fewer turn _ (omega (arith, z .bits, z .blocks, z .slots)))
+
+few-hands : {n : Near} {x : Heard} {o : ℕ} {near : Bool} → Hands n x o near → o ≤ 5
+few-hands (no-hand w) = omega arith
+few-hands (hand true w e) = omega arith
+few-hands (hand false w e) = omega arith
+
+few : {a : Open} {n : Near} {q : Place} {lost : Bool} {x : Heard} {v : Verdict} → Comes a n q lost x v → v .outcome ≤ 5
+few (passing f d h) = few-hands h
+few (missing f d u h) = few-hands h
+few (keeping b d l) = omega arith
+few (closing b d l) = omega arith
+few (heading true w) = omega arith
+few (heading false w) = omega arith
+
+quiet-nothing : (due lost : Bool) → on-nothing due lost .outcome ≡ 0
+quiet-nothing true lost = refl
+quiet-nothing false lost = refl
+
+module _ {f : ℕ} {s : Settings} {l : Lent} {x : Brought} (b : Brings f s l x) (a : Open) (n : Near) (q : Place) (lost : Bool)
+    {v : Verdict} (e : v ≡ judge (x .what) a n q (x .meant) (x .raw) (x .countdown) lost) where
+  few-read : f ≡ 0 → v .outcome ≤ 5
+  few-read z = rw (e, b .accepted z .shows) (few (comes a n q lost (heard s l)))
+
+  quiet-refused : (f ≡ 0 → ⊥) → v .outcome ≡ 0
+  quiet-refused z = rw (e, b .refused z) (quiet-nothing (is-due a q) lost)
+
+  few-when : (d : Bool) → eqb f 0 ≡ d → v .outcome ≤ 5
+  few-when true d = few-read (eqb-true f 0 d)
+  few-when false d = omega (arith, quiet-refused (eqb-false f 0 d))
+
+  pub few-outcomes : v .outcome ≤ 5
+  few-outcomes = few-when (eqb f 0) refl
+
+  -- a buffer is written to only where it is long enough
+  room-when : {m : ℕ} → (f ≡ 0 → 512 ≤ m) → (d : Bool) → eqb f 0 ≡ d → 0 < v .outcome → 512 ≤ m
+  room-when h true d o = h (eqb-true f 0 d)
+  room-when h false d o = absurd (omega (arith, quiet-refused (eqb-false f 0 d)))
+
+  pub tells-inside : {m : ℕ} → (f ≡ 0 → 512 ≤ m) → 0 < v .outcome → 512 ≤ m
+  tells-inside h = room-when h (eqb f 0) refl
+
+-- ---- the reply
+
+-- What the code finds on the way to its reply to a report that is refused for a fault, or accepted where that is 0; and
+-- the lent buffer, before and after.
+pub record Works (before : Receiver) (fault : ℕ) (l : Lent) (r : Reply) (old new : List ℕ) : Type 0 where
+  pub turn : Bool
+  pub tick : Place
+  pub lost : Bool
+  pub run : Open
+  pub near : Near
+  pub bits : ℕ
+  pub store : List ℕ
+  pub x : Brought
+  pub v : Verdict
+  pub turn-is : turn ≡ cond (eqb fault 0) (follows (before .place) (place l)) true
+  pub tick-is : tick ≡ cond (eqb fault 0) (place l) noPlace
+  pub lost-is : lost ≡ broken-off turn (before .assembly .run)
+  pub run-is : run ≡ older-run turn tick (before .assembly .run)
+  pub near-is : near ≡ older-near turn tick (before .nearest)
+  pub bits-is : bits ≡ cond turn (before .assembly .bits) 0
+  pub store-is : store ≡ cond turn (before .assembly .store) (storeOf [])
+  pub brings : Brings fault (before .settings) l x
+  pub judges : v ≡ judge (x .what) run near tick (x .meant) (x .raw) (x .countdown) lost
+  pub tells : Told v x (broughtBits x (l .blocks)) (run .fields) bits store (r .answer) old new
+  pub settings-after : r .receiver .settings ≡ before .settings
+  pub place-after : r .receiver .place ≡ cond (eqb fault 0) (place l) (before .place)
+  pub near-after : r .receiver .nearest ≡ cond (v .near) (near-of (x .raw) (x .countdown)) near
+  pub run-after :
+      r .receiver .assembly .run ≡ run-after (v .act) (opening (x .fields) (x .raw) (x .more) (l .frame) (x .countdown)) run
+  pub bits-after : Counted (v .act) bits (x .bits) (r .receiver .assembly .bits)
+  pub store-after : Stored (v .act) bits (broughtBits x (l .blocks)) store (r .receiver .assembly .store)
 
 abbrev markOf : Bool → ℕ
 markOf b = cond b 1 0
-
--- the mark of an assembly that was broken off
-mark-is : (t : Bool) (m : Option Open) (q : Place) (x : Heard) → cond (ends-here (still t q m) q x) 1 (cond t 0 (assemblyOf m .held)) ≡ markOf (drop-mark t m q x)
-mark-is true none q x = refl
-mark-is true (some a) q x = refl
-mark-is false none q x = refl
-mark-is false (some a) q x = refl
-
-lost-is : (s : Settings) (t : State) (frame slot : ℕ) → Named (t .last) → lostAt (receiverOf s t) frame slot ≡ cond (in-turn (t .last) (place frame slot)) 0 (assemblyOf (t .assembly) .held)
-unfolding lostAt
-lost-is s t frame slot n = rw (follows-is (t .last) frame slot n) refl
-
-module _ (s : Settings) (t : State) (l : Lent) (n : Named (t .last)) (z : IsSmall (t .assembly)) where
-  abbrev q : Place
-  q = place (l .frame) (l .slot)
-
-  abbrev report : Report
-  report = record { place = q; heard = heard s l }
-
-  abbrev aged : State
-  aged = agedState t q
-
-  abbrev lost : ℕ
-  lost = lostAt (receiverOf s t) (l .frame) (l .slot)
-
-  aged-small : IsSmall (aged .assembly)
-  aged-small = small-still (in-turn (t .last) q) q (t .assembly) z
-
-  taken-when : (b c : Bool)
-      → cond b (headerTo (receiverOf s aged) (l .frame) (l .slot) (take 8 (l .blocks)) (drop 8 (l .blocks)) lost)
-      (cond c (blockTo (receiverOf s aged) (l .frame) (l .slot) (l .blocks) lost) (nothingIn (receiverOf s aged) (l .frame) (l .slot) 0 lost))
-      ≡ replyOf s aged q
-      (cond b (headerHeard s (drop 8 (l .blocks)) (headerIn l)) (cond c (blockHeard (l .blocks) (readContinuation (l .blocks))) nothing))
-      (cond b (headerIn l .fault) (cond c (readContinuation (l .blocks) .fault) 0)) lost
-  taken-when true c = header-reply s aged (l .frame) (l .slot) lost aged-small (take 8 (l .blocks)) (drop 8 (l .blocks))
-  taken-when false true = block-reply s aged (l .frame) (l .slot) lost aged-small (l .blocks)
-  taken-when false false = nothing-reply s (aged .last) (aged .assembly) (aged .near) (l .frame) (l .slot) 0 lost aged-small
-
-  over-when : (b c : Bool) (old : List ℕ)
-      → cond b (headerOver (receiverOf s aged) (l .frame) (l .slot) (take 8 (l .blocks)) (drop 8 (l .blocks)) old)
-      (cond c (blockOver (receiverOf s aged) (l .frame) (l .slot) (l .blocks) old) old)
-      ≡ handed
-      (message-of
-      (telling (aged .assembly) (aged .near) q
-      (cond b (headerHeard s (drop 8 (l .blocks)) (headerIn l)) (cond c (blockHeard (l .blocks) (readContinuation (l .blocks))) nothing))))
-      old
-  over-when true c old = header-over s aged (l .frame) (l .slot) lost aged-small (take 8 (l .blocks)) (drop 8 (l .blocks)) old
-  over-when false true old = block-over s aged (l .frame) (l .slot) lost aged-small (l .blocks) old
-  over-when false false old = sym (handed-none old)
-
-  -- the receiver and its answer are the step's
-  pub taken-is : takenBy (receiverOf s t) (l .frame) (l .slot) (l .kind) (l .blocks)
-      ≡ record { receiver = receiverOf s (step t report); answer = answerOf (answer t report .outcome) (markOf (answer t report .dropped)) (faultIn l) }
-  unfolding heard step answer
-  taken-is =
-      rw (aged-is s t (l .frame) (l .slot) n)
-      (taken-when (eqb (l .kind) 2) (eqb (l .kind) 3)
-      ∙ rw (lost-is s t (l .frame) (l .slot) n, mark-is (in-turn (t .last) q) (t .assembly) q (heard s l)) refl)
-
-  pub over-is : (old : List ℕ) → takenOver (receiverOf s t) (l .frame) (l .slot) (l .kind) (l .blocks) old ≡ handed (message-of (answer t report .outcome)) old
-  unfolding heard answer
-  over-is old = rw (aged-is s t (l .frame) (l .slot) n) (over-when (eqb (l .kind) 2) (eqb (l .kind) 3) old)
-
--- ---- the promise
 
 mark-one : (b : Bool) → markOf b ≡ 1 → b ≡ true
 mark-one true e = refl
@@ -167,86 +208,238 @@ mark-small : (b : Bool) → markOf b ≤ 1
 mark-small true = omega arith
 mark-small false = omega arith
 
-module _ (s : Settings) (ls : Line Lent) (l : Lent) where
+-- the step's reply is what the history asks for
+pub answers : (s : Settings) (ls : Line Event) (l : Lent) {r : Reply} {old new : List ℕ}
+    → (let a = answer (after (reports s ls)) (reportOf s l) in
+    r ≡ record {
+      receiver = receiverOf s (step.step (after (reports s ls)) (reportOf s l));
+      answer = answerOf (a .outcome) (cond (a .dropped) 1 0) (faultIn l);
+    })
+    → new ≡ handed (message-of (outcome-at (reports s ls) (reportOf s l))) old → Answered s ls l r old new
+unfolding after
+answers s ls l e b =
+    let hs = reports s ls in
+    let x = reportOf s l in
+    let d = dropped-at hs x in
+    record {
+      message = message-of (outcome-at hs x);
+      told = rw e (theorem-told hs x);
+      bits = rw e refl;
+      buffer = b;
+      dropped = rw e ((λ i. theorem-dropped hs x .0 (mark-one d i)), (λ i. ap markOf (theorem-dropped hs x .1 i)));
+      mark = rw e (mark-small d);
+      fault = rw e refl;
+      receiver = rw e refl;
+    }
+
+module _ (s : Settings) (ls : Line Event) {before : Receiver} (k : Leads s ls before) (l : Lent) {r : Reply}
+    {old new : List ℕ} (w : Works before 0 l r old new) where
   abbrev history : History
   history = reports s ls
 
   abbrev next : Report
   next = reportOf s l
 
-  module _ (before : Receiver) (k : Leads s ls before) {r : Reply} (e : r ≡ takenBy before (l .frame) (l .slot) (l .kind) (l .blocks)) where
-    reply-is : r ≡ record { receiver = receiverOf s (step (after history) next); answer = answerOf (outcome-at history next) (markOf (dropped-at history next)) (faultIn l) }
-    reply-is = rw (e, k .there) (taken-is s (after history) l (last-named s ls (k .accepted)) (small s ls (k .accepted)))
+  abbrev h : Heard
+  h = heard s l
 
-    pub answered : (old : List ℕ) {new : List ℕ} → new ≡ takenOver before (l .frame) (l .slot) (l .kind) (l .blocks) old → Answered s ls l r old new
-    unfolding after
-    answered old o =
-        let d = dropped-at history next in
-        record {
-          message = message-of (outcome-at history next);
-          told = rw reply-is (theorem-told history next);
-          bits = rw reply-is refl;
-          buffer = rw (o, k .there) (over-is s (after history) l (last-named s ls (k .accepted)) (small s ls (k .accepted)) old);
-          dropped = rw reply-is ((λ i. theorem-dropped history next .0 (mark-one d i)), (λ i. ap markOf (theorem-dropped history next .1 i)));
-          mark = rw reply-is (mark-small d);
-          fault = rw reply-is refl;
-          receiver = rw reply-is refl;
-        }
+  abbrev rest : State
+  rest = left s ls k l
 
-    pub leads-on : Accepted l → Leads s (ls ▸ l) (r .receiver)
-    unfolding after
-    leads-on a = record { fit = k .fit; accepted = (k .accepted, a); there = rw reply-is refl }
+  reads : Reads s l (w .x)
+  reads = subst (λ (z : Settings). Reads z l (w .x)) (ap (λ (z : Receiver). z .settings) (k .there)) (w .brings .accepted refl)
 
--- a report that is not refused
-pub passes : (l : Lent) (buffer : List ℕ) → refusedWith l buffer ≡ 0 → Accepted l × (brought (l .kind) (length (l .blocks)) ≡ true) × (512 ≤ length buffer)
-passes l buffer e =
-    let z = all-zero (reportRules (l .frame) (l .slot) (l .kind) (length (l .blocks)) (length buffer)) e in (
-      rw (z .0, z .1 .0, z .1 .1 .0, z .1 .1 .1 .0) refl,
-      holds (brought (l .kind) (length (l .blocks))) 0 (z .1 .1 .1 .0),
-      leb-true 512 (length buffer) (holds (leb 512 (length buffer)) 16 (z .1 .1 .1 .1 .0)),
-    )
+  run-left : w .run ≡ rest .assembly .run
+  run-left = w .run-is ∙ rw (w .tick-is) (run-is s ls k l (w .turn-is))
+
+  near-left : w .near ≡ rest .near
+  near-left = w .near-is ∙ rw (w .tick-is) (near-is s ls k l (w .turn-is))
+
+  bits-left-is : w .bits ≡ length (rest .assembly .joined)
+  bits-left-is = w .bits-is ∙ bits-is s ls k l (w .turn-is)
+
+  store-left-is : w .store ≡ storeOf (rest .assembly .joined)
+  store-left-is = w .store-is ∙ store-is s ls k l (w .turn-is)
+
+  shown : w .x ≡ broughtOf h (faultIn l) (w .x .from)
+  shown = reads .shows
+
+  -- the verdict is the step's
+  verdict-is : w .v ≡ verdict-at (after history) next
+  verdict-is =
+      w .judges
+      ∙ rw (shown, run-left, near-left, w .tick-is, w .lost-is ∙ lost-is s ls k l (w .turn-is)) refl
+
+  brought-is : broughtBits (w .x) (l .blocks) ≡ bits-in h
+  brought-is = reads .message
+
+  abbrev verdict : Verdict
+  verdict = verdict-at (after history) next
+
+  -- and so are the receiver and the answer
+  receiver-is : r .receiver ≡ receiverOf s (step.step (after history) next)
+  unfolding step.step
+  receiver-is =
+      let j = rest .assembly .joined in
+      let e₁ : r .receiver .settings ≡ s = w .settings-after ∙ ap (λ (z : Receiver). z .settings) (k .there) in
+      let e₂ : r .receiver .nearest ≡ cond (verdict .near) (near-of (header-in h .raw) (countdown-in h)) (rest .near) =
+      w .near-after ∙ rw (verdict-is, shown, near-left) refl in
+      let o = opening (header-in h .fields) (header-in h .raw) (more-in h) (l .frame) (countdown-in h) in
+      let e₃ : r .receiver .assembly .run ≡ run-after (verdict .act) o (rest .assembly .run) =
+      w .run-after ∙ rw (verdict-is, shown, run-left) refl in
+      let e₄ : r .receiver .assembly .bits ≡ length (joined-after (verdict .act) (bits-in h) j) =
+      w .bits-after j (bits-in h) bits-left-is (ap (λ (y : Brought). y .bits) shown)
+      ∙ ap (λ (v : Verdict). length (joined-after (v .act) (bits-in h) j)) verdict-is in
+      let e₅ : r .receiver .assembly .store ≡ storeOf (joined-after (verdict .act) (bits-in h) j) =
+      w .store-after j store-left-is bits-left-is
+      ∙ ap₂ (λ (v : Verdict) (b : List Bool). storeOf (joined-after (v .act) b j)) verdict-is brought-is in
+      λ i. record {
+        settings = e₁ i;
+        place = w .place-after i;
+        nearest = e₂ i;
+        assembly = record { run = e₃ i; bits = e₄ i; store = e₅ i };
+      }
+
+  told-is : Tells (outcome-at history next) (dropped-at history next) (faultIn l) (r .answer) old new
+  unfolding answer
+  told-is =
+      let j = rest .assembly .joined in
+      let T : Verdict → Brought → List Bool → Open → Type 0 =
+      λ v y b a.
+      Tells (outcome-of (v .outcome) (y .fields) b (a .fields) (j ++ b)) (v .dropped) (y .fault) (r .answer) old new
+      in
+      let t₁ : T verdict (w .x) (broughtBits (w .x) (l .blocks)) (w .run) =
+      subst (λ (v : Verdict). T v (w .x) (broughtBits (w .x) (l .blocks)) (w .run)) verdict-is
+      (w .tells j store-left-is bits-left-is) in
+      let t₂ : T verdict (w .x) (bits-in h) (rest .assembly .run) =
+      subst (λ (a : Open). T verdict (w .x) (bits-in h) a) run-left
+      (subst (λ (b : List Bool). T verdict (w .x) b (w .run)) brought-is t₁) in
+      subst (λ (y : Brought). T verdict y (bits-in h) (rest .assembly .run)) shown t₂
+
+  pub answered : Answered s ls l r old new
+  answered =
+      answers s ls l
+      (ap₂ (λ (x : Receiver) (y : Answer). record { receiver = x; answer = y }) receiver-is (told-is .answer))
+      (told-is .buffer)
+
+  leads-on : Accepted l → Leads s (ls ▸ l) (r .receiver)
+  unfolding after
+  leads-on a = record { fit = k .fit; accepted = (k .accepted, a); there = receiver-is }
+
+-- ---- what the calls return
+
+heard-all : {before : Receiver} (k : Reached before) (l : Lent) (old : List ℕ) → refusedWith l old ≡ 0 → {r : Reply}
+    {new : List ℕ} → Works before 0 l r old new → Reached (r .receiver) × Hears before l r old new
+heard-all k l old z w = (
+  record {
+    settings = k .settings;
+    heard = k .heard ▸ l;
+    leads = leads-on (k .settings) (k .heard) (k .leads) l w (passes l old z .0);
+  },
+  record {
+    refused = λ m i. let c : suc m ≡ 0 = sym i ∙ z in absurd (omega arith);
+    answered = λ s ls h i. answered s ls h l w;
+  },
+)
+
+pub not-heard : {before : Receiver} (k : Reached before) (l : Lent) (old : List ℕ) {f : ℕ} → f ≡ refusedWith l old
+    → (f ≡ 0 → ⊥) → {r : Reply} → r ≡ record { receiver = before; answer = plainAnswer 0 0 f } → {new : List ℕ} → new ≡ old
+    → Reached (r .receiver) × Hears before l r old new
+not-heard k l old {f} e n q o = (
+  rw q k,
+  record {
+    refused = λ m i. let z : f ≡ suc m = e ∙ i in record { answer = rw (q, z) refl; receiver = rw q refl; buffer = o };
+    answered = λ s ls h i. absurd (n (e ∙ i));
+  },
+)
+
+-- a refused report leaves all as it was
+module _ {before : Receiver} (k : Reached before) (l : Lent) {f : ℕ} (d : eqb f 0 ≡ false) {r : Reply} {old new : List ℕ}
+    (w : Works before f l r old new) where
+  abbrev joined : List Bool
+  joined = after (reports (k .settings) (k .heard)) .assembly .joined
+
+  turn-on : w .turn ≡ true
+  turn-on = w .turn-is ∙ rw d refl
+
+  no-tick : w .tick ≡ noPlace
+  no-tick = w .tick-is ∙ rw d refl
+
+  run-on : w .run ≡ before .assembly .run
+  run-on = w .run-is ∙ rw (turn-on, no-tick) refl
+
+  nothing-brought : w .x ≡ headless Nothing f 0 0
+  nothing-brought = w .brings .refused (eqb-false f 0 d)
+
+  never-due : (a : Open) → is-due a noPlace ≡ false
+  never-due a = rw (and-false (eqb 0 (due (a .frame) (a .countdown) (a .kept) .frame)), and-false (is-held a)) refl
+
+  idle : w .v ≡ passed false
+  idle = w .judges ∙ rw (nothing-brought, no-tick, never-due (w .run), w .lost-is, turn-on) refl
+
+  bits-were : before .assembly .bits ≡ length joined
+  bits-were = ap (λ (z : Receiver). z .assembly .bits) (k .leads .there)
+
+  store-was : before .assembly .store ≡ storeOf joined
+  store-was = ap (λ (z : Receiver). z .assembly .store) (k .leads .there)
+
+  bits-on : w .bits ≡ length joined
+  bits-on = w .bits-is ∙ rw turn-on bits-were
+
+  store-on : w .store ≡ storeOf joined
+  store-on = w .store-is ∙ rw turn-on store-was
+
+  kept-all : r .receiver ≡ before
+  kept-all =
+      let e₁ : r .receiver .place ≡ before .place = w .place-after ∙ rw d refl in
+      let e₂ : r .receiver .nearest ≡ before .nearest = w .near-after ∙ rw (idle, w .near-is, turn-on, no-tick) refl in
+      let e₃ : r .receiver .assembly .run ≡ before .assembly .run = w .run-after ∙ rw idle run-on in
+      let c : r .receiver .assembly .bits ≡ length (joined-after (w .v .act) [] joined) =
+      w .bits-after joined [] bits-on (ap (λ (y : Brought). y .bits) nothing-brought) in
+      let e₄ : r .receiver .assembly .bits ≡ before .assembly .bits = c ∙ rw idle (sym bits-were) in
+      let e₅ : r .receiver .assembly .store ≡ before .assembly .store =
+      w .store-after joined store-on bits-on ∙ rw idle (sym store-was) in
+      λ i. record {
+        settings = w .settings-after i;
+        place = e₁ i;
+        nearest = e₂ i;
+        assembly = record { run = e₃ i; bits = e₄ i; store = e₅ i };
+      }
+
+  told-fault : Tells quiet false f (r .answer) old new
+  told-fault =
+      let T : Verdict → Brought → Type 0 =
+      λ v y. Tells (outcome-of (v .outcome) (y .fields) (broughtBits (w .x) (l .blocks)) (w .run .fields)
+      (joined ++ broughtBits (w .x) (l .blocks))) (v .dropped) (y .fault) (r .answer) old new in
+      subst (λ (y : Brought). T (passed false) y) nothing-brought
+      (subst (λ (v : Verdict). T v (w .x)) idle (w .tells joined store-on bits-on))
+
+  left-alone : f ≡ refusedWith l old → Reached (r .receiver) × Hears before l r old new
+  left-alone e =
+      not-heard k l old e (eqb-false f 0 d)
+      (ap₂ (λ (x : Receiver) (y : Answer). record { receiver = x; answer = y }) kept-all (told-fault .answer))
+      (told-fault .buffer ∙ handed-none old)
+
+replied-when : {before : Receiver} (k : Reached before) (l : Lent) (old : List ℕ) (f : ℕ) (d : Bool) → eqb f 0 ≡ d
+    → f ≡ refusedWith l old → {r : Reply} {new : List ℕ} → Works before f l r old new
+    → Reached (r .receiver) × Hears before l r old new
+replied-when {before} k l old f true d e {r} {new} w =
+    let z = eqb-true f 0 d in
+    heard-all k l old (sym e ∙ z) (subst (λ (n : ℕ). Works before n l r old new) z w)
+replied-when k l old f false d e w = left-alone k l d w e
+
+-- what the code works out is what `hear` promises
+pub replied : {before : Receiver} (k : Reached before) (l : Lent) (old : List ℕ) (f : ℕ) → f ≡ refusedWith l old
+    → {r : Reply} {new : List ℕ} → Works before f l r old new → Reached (r .receiver) × Hears before l r old new
+replied k l old f e w = replied-when k l old f (eqb f 0) refl e w
 
 -- a fresh receiver
-abbrev unit : ℕ → ℕ → ℕ → Settings
-unit individual group mni = record { individual = individual; group = group; mni = mni }
-
-pub fresh-leads : (individual group mni : ℕ) → settingsFit individual group mni ≡ true → Leads (unit individual group mni) start (newReceiver individual group mni)
+pub fresh-leads : (individual group mni : ℕ) → settingsFit individual group mni ≡ true
+    → Leads (unit individual group mni) start (newReceiver individual group mni)
 unfolding after
-fresh-leads individual group mni e = record { fit = e; accepted = tt; there = refl }
+fresh-leads individual group mni e = record { fit = e; accepted = tt; there = rw no-assembly-is refl }
 
-pub fresh-reached : (individual group mni : ℕ) → settingsFit individual group mni ≡ true → Reached (newReceiver individual group mni)
-fresh-reached individual group mni e = record { settings = unit individual group mni; heard = start; leads = fresh-leads individual group mni e }
-
--- ---- what `hear` returns
-
-module _ (before : Receiver) (k : Reached before) (l : Lent) (old : List ℕ) where
-  not-heard : {f : ℕ} → f ≡ refusedWith l old → (f ≡ 0 → ⊥) → {r : Reply} → r ≡ passedBy before 0 f → {new : List ℕ} → new ≡ old → Reached (r .receiver) × Hears before l r old new
-  not-heard {f} e n {r} q o = (
-    rw q k,
-    record {
-      refused = λ m i. let z : f ≡ suc m = e ∙ i in record { answer = rw (q, z) refl; receiver = rw q refl; buffer = o };
-      answered = λ s ls h i. absurd (n (e ∙ i));
-    },
-  )
-
-  was-heard : refusedWith l old ≡ 0 → {r : Reply} → r ≡ takenBy before (l .frame) (l .slot) (l .kind) (l .blocks)
-      → {new : List ℕ} → new ≡ takenOver before (l .frame) (l .slot) (l .kind) (l .blocks) old → Reached (r .receiver) × Hears before l r old new
-  was-heard z e o =
-      let a = leads-on (k .settings) (k .heard) l before (k .leads) e (passes l old z .0) in (
-        record { settings = k .settings; heard = k .heard ▸ l; leads = a },
-        record {
-          refused = λ m i. let c : suc m ≡ 0 = sym i ∙ z in absurd (omega arith);
-          answered = λ s ls h i. answered s ls l before h e old o;
-        },
-      )
-
-  replied-when : {f : ℕ} (d : Bool) → eqb f 0 ≡ d → f ≡ refusedWith l old
-      → {r : Reply} → r ≡ cond d (takenBy before (l .frame) (l .slot) (l .kind) (l .blocks)) (passedBy before 0 f)
-      → {new : List ℕ} → new ≡ cond d (takenOver before (l .frame) (l .slot) (l .kind) (l .blocks) old) old → Reached (r .receiver) × Hears before l r old new
-  replied-when {f} true t e q o = was-heard (sym e ∙ eqb-true f 0 t) q o
-  replied-when {f} false t e q o = not-heard e (eqb-false f 0 t) q o
-
-  pub replied : {f : ℕ} → f ≡ refusedWith l old → {r : Reply} → r ≡ repliedBy before f (l .frame) (l .slot) (l .kind) (l .blocks)
-      → {new : List ℕ} → new ≡ repliedOver before f (l .frame) (l .slot) (l .kind) (l .blocks) old → Reached (r .receiver) × Hears before l r old new
-  unfolding repliedBy repliedOver
-  replied {f} e q o = replied-when (eqb f 0) refl e q o
+pub fresh-reached : (individual group mni : ℕ) → settingsFit individual group mni ≡ true
+    → Reached (newReceiver individual group mni)
+fresh-reached individual group mni e =
+    record { settings = unit individual group mni; heard = start; leads = fresh-leads individual group mni e }

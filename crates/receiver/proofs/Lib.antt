@@ -1,10 +1,5 @@
-pub mod Counting
-pub mod ViewLaws
-pub mod ReplyLaws
-pub mod Readings
-pub mod Rooms
-pub mod SoundLaws
-pub mod VerdictLaws
-pub mod HeardLaws
+pub mod AcceptedLaws
+pub mod TellLaws
 pub mod HearLaws
+pub mod ReplyLaws
 pub mod AnswerLaws

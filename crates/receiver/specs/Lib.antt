@@ -1,6 +1,3 @@
--- The record, the history of reports, and the step, in the words of document 01.
-pub mod Held
-pub mod Taken
-pub mod Verdicts
+-- The record that stands for a state of the step, and what the calls promise.
 pub mod View
 pub mod Reached

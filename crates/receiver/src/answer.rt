@@ -1,16 +1,18 @@
 // The answer to a report.
 ghost use mathlib.Core.Path.{_≡_};
+ghost use mathlib.Core.Bool.{cond};
 ghost use Prim.Native.Nat.{_+_, _≤_, _<_};
 ghost use lib.ListN.{length};
 ghost use Rattle.bits.specs.Bits.{Inside};
-ghost use Rattle.receiver.specs.Held.{plainAnswer};
-ghost use Rattle.receiver.specs.Verdicts.{answerTo, toldOver, bitsFor};
+ghost use Rattle.receiver.specs.View.{plainAnswer, broughtBits, Told};
 use blocks::header::Fields;
-use reports::verdict::Verdict;
-use reports::verdict::no_fields;
+use blocks::header::no_fields;
+use history::Outcome;
+use history::Verdict;
+use reports::read::Brought;
 
-// The answer to a report: its outcome; 1 where an open assembly ended here without being handed over; the fault; the bits of the message that is
-// handed over, and its header's fields.
+// The answer to a report: its outcome; 1 where an open assembly ended here without being handed over; the fault; the
+// bits of the message that is handed over, and its header's fields.
 #[repr(C)]
 pub struct Answer {
     pub outcome: u8,
@@ -21,7 +23,7 @@ pub struct Answer {
 }
 
 // An answer that hands nothing over.
-pub(crate) fn plain(outcome: u8, dropped: u8, fault: u8) -> Answer
+fn plain(outcome: u8, dropped: u8, fault: u8) -> Answer
     ensures { λ r. ⌜ r ≡ plainAnswer outcome dropped fault ⌝ }
 {
     Answer {
@@ -33,39 +35,50 @@ pub(crate) fn plain(outcome: u8, dropped: u8, fault: u8) -> Answer
     }
 }
 
-// The answer to a report, of an assembly that has `at` bits and these fields. A message that is handed over goes to the buffer's start: the bits that
-// `part` brings, after those of the store where it is a joined one.
+fn mark(dropped: bool) -> u8
+    ensures { λ r. ⌜ r ≡ cond dropped 1 0 ⌝ }
+{
+    if dropped { 1 } else { 0 }
+}
+
+// The answer to a report that is judged, of an assembly whose header has these fields and which has `at` bits in the
+// store. A message that is handed over goes to the buffer's start: the bits that the report brings, after those of
+// the store where it is a joined one.
 pub(crate) fn told(
     v: Verdict,
+    x: Brought,
+    joining: Fields,
     at: usize,
-    opened: Fields,
     store: &[u8],
-    part: &[u8],
+    blocks: &[u8],
     message: &mut [u8],
 ) -> Answer
-    requires { ⌜ (length (now store) ≡ 512) × (at + v .bits ≤ 4096) × Inside (length (now part)) (v .from) (v .from + v .bits) × (0 < v .outcome → 512 ≤ length (now message)) ⌝ }
-    ensures { λ r. ⌜ (r ≡ answerTo v at opened) × (now (message .exit) ≡ toldOver (v .outcome) (v .bits) at (bitsFor v (now (part .entry))) (now (store .entry)) (now (message .entry))) ⌝ }
+    requires { ⌜ (v .outcome ≤ 5) × (length (now store) ≡ 512) × (at + x .bits ≤ 4096)
+        × Inside (length (now blocks)) (x .from) (x .from + x .bits) × (0 < v .outcome → 512 ≤ length (now message)) ⌝ }
+    ensures { λ r. ⌜ Told v x (broughtBits x (now (blocks .entry))) joining at (now (store .entry)) r
+        (now (message .entry)) (now (message .exit)) ⌝ }
 {
-    if v.outcome == 1 {
-        store::hand_block(part, v.from, v.bits, message);
-        let fields = v.fields;
+    let dropped = mark(v.dropped);
+    if v.outcome == Outcome::UNFRAGMENTED {
+        store::hand_block(blocks, x.from, x.bits, message);
+        let fields = x.fields;
         return Answer {
-            outcome: 1,
-            dropped: v.dropped,
-            fault: 0,
-            bits: v.bits,
+            outcome: Outcome::UNFRAGMENTED,
+            dropped,
+            fault: x.fault,
+            bits: x.bits,
             fields,
         };
     }
-    if v.outcome == 2 {
-        store::hand_joined(store, at, part, v.from, v.bits, message);
+    if v.outcome == Outcome::JOINED {
+        store::hand_joined(store, at, blocks, x.from, x.bits, message);
         return Answer {
-            outcome: 2,
-            dropped: v.dropped,
-            fault: 0,
-            bits: at + v.bits,
-            fields: opened,
+            outcome: Outcome::JOINED,
+            dropped,
+            fault: x.fault,
+            bits: at + x.bits,
+            fields: joining,
         };
     }
-    plain(v.outcome, v.dropped, v.fault)
+    plain(v.outcome, dropped, x.fault)
 }

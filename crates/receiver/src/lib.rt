@@ -1,41 +1,45 @@
 // The receiver: slot reports in, messages out.
 pub mod answer;
 pub mod assembly;
-pub mod nearest;
 
 ghost use mathlib.Core.Path.{_≡_};
-ghost use mathlib.Core.Bool.{true};
-ghost use Prim.Native.Nat.{_+_, _≤_};
+ghost use mathlib.Core.Bool.{true, cond};
+ghost use lib.Dec.{eqb};
 ghost use lib.ListN.{length};
 ghost use Rattle.reports.specs.Lent.{brought, lent};
-ghost use Rattle.receiver.specs.Reached.{Reached, Hears};
-ghost use Rattle.receiver.specs.Taken.{repliedBy, repliedOver};
-ghost use Rattle.receiver.specs.Verdicts.{headerFor, blockFor, judgedBy, facedBy, skippedFor};
-ghost use Rattle.receiver.specs.Held.{agedReceiver, lostAt, newReceiver, freshOf};
+ghost use Rattle.reports.specs.Turns.{follows};
+ghost use Rattle.receiver.specs.Reached.{refusedWith, Reached, Hears};
+ghost use Rattle.receiver.specs.View.{noPlace, Brings, newWith, freshOf};
 use crate::answer::Answer;
 use crate::answer::told;
 use crate::assembly::Assembly;
-use crate::assembly::change;
-use crate::nearest::Nearest;
-use blocks::sizes::SchS;
+use crate::assembly::bits_after;
+use crate::assembly::older_bits;
+use crate::assembly::store_after;
+use blocks::fault::Fault;
+use history::Near;
 use history::Place;
+use history::What;
+use reports::near::near_after;
+use reports::near::no_near;
+use reports::near::older_near;
 use reports::place::follows;
+use reports::read::Brought;
+use reports::read::headless;
+use reports::read::read;
 use reports::report::report_rules;
+use reports::run::broken_off;
+use reports::run::older_run;
+use reports::run::run_after;
 use reports::unit::Settings;
-use reports::unit::settings_fit;
-use reports::verdict::Verdict;
-use reports::verdict::on_end;
-use reports::verdict::on_frag;
-use reports::verdict::on_fragmented;
-use reports::verdict::on_nothing;
-use reports::verdict::on_unfragmented;
+use reports::verdict::judge;
 
 // The receiver. What is not there is zero.
 #[repr(C)]
 pub struct Receiver {
     pub settings: Settings,
     pub place: Place,
-    pub nearest: Nearest,
+    pub nearest: Near,
     pub assembly: Assembly,
 }
 
@@ -52,29 +56,56 @@ pub struct Fresh {
     pub receiver: Receiver,
 }
 
-// The bytes of a report's blocks before the one that holds message bits: SCH/S for a header.
-fn skipped(fault: u8, kind: u8) -> usize
-    ensures { λ r. ⌜ r ≡ skippedFor fault kind ⌝ }
+// Whether a report follows the last one; one that is refused breaks nothing.
+fn in_turn(fault: u8, last: Place, q: Place) -> bool
+    ensures { λ r. ⌜ r ≡ cond (eqb fault 0) (follows last q) true ⌝ }
 {
     if fault != 0 {
-        return 0;
+        return true;
     }
-    if kind == 2 { SchS::BYTES } else { 0 }
+    follows(last, q)
+}
+
+// The slot that has come; none where the report is refused.
+fn ticking(fault: u8, q: Place) -> Place
+    ensures { λ r. ⌜ r ≡ cond (eqb fault 0) q noPlace ⌝ }
+{
+    if fault != 0 {
+        return Place { frame: 0, slot: 0 };
+    }
+    q
+}
+
+// The last place after a report.
+fn standing(fault: u8, last: Place, q: Place) -> Place
+    ensures { λ r. ⌜ r ≡ cond (eqb fault 0) q last ⌝ }
+{
+    if fault != 0 {
+        return last;
+    }
+    q
+}
+
+// What a report brings: nothing, and its fault, where it is refused.
+fn heard(fault: u8, settings: Settings, q: Place, kind: u8, blocks: &[u8]) -> Brought
+    requires { ⌜ (fault ≡ 0 → brought kind (length (now blocks)) ≡ true) ⌝ }
+    ensures { λ r. ⌜ Brings fault settings (lent (q .frame) (q .slot) kind (now (blocks .entry))) r ⌝ }
+{
+    if fault != 0 {
+        return headless(What::Nothing, fault, 0, 0);
+    }
+    read(settings, q, kind, blocks)
 }
 
 impl Receiver {
     // One that has heard nothing.
-    fn new(individual: u32, group: u32, mni: u32) -> Receiver
-        ensures { λ r. ⌜ r ≡ newReceiver individual group mni ⌝ }
+    fn new(settings: Settings) -> Receiver
+        ensures { λ r. ⌜ r ≡ newWith settings ⌝ }
     {
         Receiver {
-            settings: Settings {
-                individual,
-                group,
-                mni,
-            },
+            settings,
             place: Place { frame: 0, slot: 0 },
-            nearest: Nearest::none(),
+            nearest: no_near(),
             assembly: Assembly::none(),
         }
     }
@@ -83,160 +114,77 @@ impl Receiver {
     pub fn fresh(individual: u32, group: u32, mni: u32) -> Fresh
         ensures { λ r. ⌜ (r ≡ freshOf individual group mni) × Reached (r .receiver) ⌝ }
     {
-        if settings_fit(individual, group, mni) {
+        let settings = Settings {
+            individual,
+            group,
+            mni,
+        };
+        if settings.fit() {
             return Fresh {
                 fault: 0,
-                receiver: Receiver::new(individual, group, mni),
+                receiver: Receiver::new(settings),
             };
         }
         Fresh {
-            fault: 13,
-            receiver: Receiver::new(0, 0, 0),
+            fault: Fault::RANGE,
+            receiver: Receiver::new(Settings {
+                individual: 0,
+                group: 0,
+                mni: 0,
+            }),
         }
     }
 
-    // The receiver when a report comes: the report's place, and what is left of the rest.
-    fn aged(self, frame: u8, slot: u8) -> Receiver
-        ensures { λ r. ⌜ r ≡ agedReceiver self frame slot ⌝ }
+    // The reply to a report that is refused for `fault`, or accepted where that is 0: it is read and judged, the answer is
+    // told, and then the record is put together in one place. To a refused one no time has gone by, and it brings nothing.
+    fn reply(self, fault: u8, q: Place, kind: u8, blocks: &[u8], message: &mut [u8]) -> Reply
+        requires { ⌜ Reached self × (fault ≡ refusedWith (lent (q .frame) (q .slot) kind (now blocks)) (now message)) ⌝ }
+        ensures { λ r. ⌜ Reached (r .receiver)
+            × Hears self (lent (q .frame) (q .slot) kind (now (blocks .entry))) r
+            (now (message .entry)) (now (message .exit)) ⌝ }
     {
-        let last = self.place;
-        let turn = follows(last, frame, slot);
         let settings = self.settings;
-        Receiver {
-            settings,
-            place: Place { frame, slot },
-            nearest: self.nearest.aged(turn, slot),
-            assembly: self.assembly.aged(turn, slot),
-        }
-    }
-
-    // 1 where the report breaks an open assembly off.
-    fn lost_at(self, frame: u8, slot: u8) -> u8
-        ensures { λ r. ⌜ r ≡ lostAt self frame slot ⌝ }
-    {
         let last = self.place;
-        if follows(last, frame, slot) {
-            return 0;
-        }
-        self.assembly.held
-    }
-
-    // The receiver that judges a report: aged, or as it was where the report is refused.
-    fn faced(self, fault: u8, frame: u8, slot: u8) -> Receiver
-        ensures { λ r. ⌜ r ≡ facedBy self fault frame slot ⌝ }
-    {
-        if fault != 0 {
-            return self;
-        }
-        self.aged(frame, slot)
-    }
-
-    // An SCH/S with its SCH/H was heard.
-    fn on_header(self, frame: u8, slot: u8, s: &[u8], h: &[u8], lost: u8) -> Verdict
-        ensures { λ r. ⌜ r ≡ headerFor self frame slot (now (s .entry)) (now (h .entry)) lost ⌝ }
-    {
-        let x = blocks::header::read_reported(frame, slot, s, h);
-        let due = self.assembly.due(frame, slot);
-        if x.fault != 0 {
-            return on_nothing(due, x.fault, lost);
-        }
-        let fields = x.fields;
-        let meant = self.settings.meant(fields);
-        if x.fragmented == 1 {
-            let raw = store::without_two(h, 16);
-            let mark = self.assembly.dropped_by(meant, raw, x.countdown, lost);
-            return on_fragmented(meant, mark, x, raw);
-        }
-        let raw = store::without_two(h, 12);
-        let copied = self.nearest.copied_by(raw, x.countdown);
-        on_unfragmented(due, meant, copied, lost, x, raw)
-    }
-
-    // An SCH/F was heard.
-    fn on_block(self, frame: u8, slot: u8, b: &[u8], lost: u8) -> Verdict
-        ensures { λ r. ⌜ r ≡ blockFor self frame slot (now (b .entry)) lost ⌝ }
-    {
-        let x = blocks::continuation::read_continuation(b);
-        let due = self.assembly.due(frame, slot);
-        if x.fault != 0 {
-            return on_nothing(due, x.fault, lost);
-        }
-        let full = self.assembly.kept == self.assembly.more;
-        if x.last == 1 {
-            return on_end(due, full, x.first, x.bits, lost);
-        }
-        on_frag(due, full, x.first, x.bits, lost)
-    }
-
-    // What a report comes to; `fault` is the one that it is refused for, 0 where it is accepted.
-    fn judged(self, fault: u8, frame: u8, slot: u8, kind: u8, lost: u8, blocks: &[u8]) -> Verdict
-        requires { ⌜ (fault ≡ 0 → brought kind (length (now blocks)) ≡ true) ⌝ }
-        ensures { λ r. ⌜ r ≡ judgedBy self fault frame slot kind lost (now (blocks .entry)) ⌝ }
-    {
-        if fault != 0 {
-            return Verdict::of(0, 0, fault, 0, 0, 0);
-        }
-        if kind == 2 {
-            return self.on_header(
-                frame,
-                slot,
-                &blocks[..SchS::BYTES],
-                &blocks[SchS::BYTES..],
-                lost,
-            );
-        }
-        if kind == 3 {
-            return self.on_block(frame, slot, blocks, lost);
-        }
-        on_nothing(self.assembly.due(frame, slot), 0, lost)
-    }
-
-    // The reply to a report that is refused for `fault`, or accepted where that is 0.
-    fn reply(
-        self,
-        fault: u8,
-        frame: u8,
-        slot: u8,
-        kind: u8,
-        blocks: &[u8],
-        message: &mut [u8],
-    ) -> Reply
-        requires { ⌜ (self .assembly .kept ≤ 14) × (self .assembly .bits + 264 ≤ 4096) × (fault ≡ 0 → brought kind (length (now blocks)) ≡ true) × (fault ≡ 0 → 512 ≤ length (now message)) ⌝ }
-        ensures { λ r. ⌜ (r ≡ repliedBy self fault frame slot kind (now (blocks .entry))) × (now (message .exit) ≡ repliedOver self fault frame slot kind (now (blocks .entry)) (now (message .entry))) ⌝ }
-    {
-        let lost = self.lost_at(frame, slot);
-        let r = self.faced(fault, frame, slot);
-        let v = r.judged(fault, frame, slot, kind, lost, blocks);
-        let part = &blocks[skipped(fault, kind)..];
-        let settings = r.settings;
-        let place = r.place;
-        let nearest = r.nearest.after(v);
-        let open = r.assembly.open().after(v, frame);
-        let bits = r.assembly.bits;
-        let fields = r.assembly.fields;
-        let mut store = r.assembly.held_bits();
-        let answer = told(v, bits, fields, &store, part, message);
-        change(&mut store, bits, v, part);
-        let assembly = open.with(store);
+        let turn = in_turn(fault, last, q);
+        let tick = ticking(fault, q);
+        let own = self.assembly.run;
+        let lost = broken_off(turn, own);
+        let run = older_run(turn, tick, own);
+        let before = self.nearest;
+        let near = older_near(turn, tick, before);
+        let bits = older_bits(turn, self.assembly.bits);
+        let mut store = self.assembly.older_store(turn);
+        let x = heard(fault, settings, q, kind, blocks);
+        let v = judge(x, run, near, tick, lost);
+        let joining = run.fields;
+        let answer = told(v, x, joining, bits, &store, blocks, message);
+        let act = v.act;
+        store_after(act, &mut store, bits, x, blocks);
         Reply {
             receiver: Receiver {
                 settings,
-                place,
-                nearest,
-                assembly,
+                place: standing(fault, last, q),
+                nearest: near_after(v.near, x, near),
+                assembly: Assembly {
+                    run: run_after(act, x, q.frame, run),
+                    bits: bits_after(act, bits, x.bits),
+                    store,
+                },
             },
             answer,
         }
     }
 
-    // Hears a slot report: `kind` 1 lends no bytes and brings nothing, 2 lends SCH/S with SCH/H (24 bytes), 3 lends SCH/F (34 bytes). Refused in the order
-    // 15, 16, 1, 17 (the message's buffer is 512 bytes or more); then the receiver and the buffer are as before. Asks for a receiver that `fresh` or an earlier
-    // `hear` gave, and gives such a one.
+    // Hears a slot report: `kind` 1 lends no bytes and brings nothing, 2 lends SCH/S with SCH/H (24 bytes), 3 lends
+    // SCH/F (34 bytes). Refused in the order 15, 16, 1, 17 (the message's buffer is 512 bytes or more); then the
+    // receiver and the buffer are as before. Asks for a receiver that `fresh` or an earlier `hear` gave, and gives
+    // such a one.
     pub fn hear(self, frame: u8, slot: u8, kind: u8, blocks: &[u8], message: &mut [u8]) -> Reply
         requires { ⌜ Reached self ⌝ }
-        ensures { λ r. ⌜ Reached (r .receiver) × Hears self (lent frame slot kind (now (blocks .entry))) r (now (message .entry)) (now (message .exit)) ⌝ }
+        ensures { λ r. ⌜ Reached (r .receiver)
+            × Hears self (lent frame slot kind (now (blocks .entry))) r (now (message .entry)) (now (message .exit)) ⌝ }
     {
         let fault = report_rules(frame, slot, kind, blocks.len(), message.len());
-        self.reply(fault, frame, slot, kind, blocks, message)
+        self.reply(fault, Place { frame, slot }, kind, blocks, message)
     }
 }

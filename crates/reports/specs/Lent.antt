@@ -6,6 +6,7 @@ use lib.Dec.{eqb, leb}
 use lib.ListN.{take, drop}
 use Rattle.bits.specs.Bits.{bitsOf}
 use Rattle.store.specs.Store.{without}
+use Rattle.store.specs.declared.Raw.{Raw}
 use Rattle.blocks.specs.Faults.{unless}
 use Rattle.blocks.specs.Sdu.{bitsIn}
 use Rattle.blocks.specs.Header.{fragmentedIn, bodyOf, messageOf, readReported}
@@ -23,12 +24,17 @@ pub record Lent : Type 0 where
   pub kind : ℕ
   pub blocks : List ℕ
 
+-- What a history is a list of: a report that was heard.
+abbrev pub Event : Type 0
+Event = Lent
+
 abbrev pub lent : ℕ → ℕ → ℕ → List ℕ → Lent
 lent frame slot kind blocks = record { frame = frame; slot = slot; kind = kind; blocks = blocks }
 
 -- Kind 1 brings nothing (0 bytes), 2 an SCH/S with its SCH/H (24), 3 an SCH/F (34).
 abbrev pub brought : ℕ → ℕ → Bool
-brought kind lent = cond (eqb kind 1) (eqb lent 0) (cond (eqb kind 2) (eqb lent 24) (cond (eqb kind 3) (eqb lent 34) false))
+brought kind lent =
+    cond (eqb kind 1) (eqb lent 0) (cond (eqb kind 2) (eqb lent 24) (cond (eqb kind 3) (eqb lent 34) false))
 
 -- A slot is 1 or 3.
 abbrev pub heardSlot : ℕ → Bool
@@ -44,14 +50,15 @@ reportRules frame slot kind lent buffer =
     unless (leb 512 buffer) 17 ∷
     []
 
--- A header is for this unit when its destination is a true address (9.3.5), its MNI is equal (it is always present), and its destination equals either
--- address (house).
+-- A header is for this unit when its destination is a true address (9.3.5), its MNI is equal (it is always present),
+-- and its destination equals either address (house).
 abbrev pub for-unit : Settings → Fields → Bool
 for-unit s g =
-    eqb (g .destination .kind) 0 && (eqb (g .mni) (s .mni) && (eqb (g .destination .ssi) (s .individual) || eqb (g .destination .ssi) (s .group)))
+    eqb (g .destination .kind) 0 &&
+    (eqb (g .mni) (s .mni) && (eqb (g .destination .ssi) (s .individual) || eqb (g .destination .ssi) (s .group)))
 
 -- SCH/H but for the countdown.
-abbrev pub rawOf : List ℕ → List ℕ
+abbrev pub rawOf : List ℕ → Raw
 rawOf h = without (12 + 4 * fragmentedIn (bitsOf h)) h
 
 -- A block that reads with a fault counts as nothing heard.
@@ -61,11 +68,14 @@ unfaulted (suc n) x = nothing
 
 abbrev pub headerHeard : Settings → List ℕ → read.Header → Heard
 headerHeard s h r =
-    let x : Header = record { raw = rawOf h; for-us = for-unit s (r .fields); fields = r .fields; bits = bitsIn (messageOf (bodyOf (bitsOf h)) (bitsOf h)) } in
-    unfaulted (r .fault) (cond (eqb (r .fragmented) 1) (fragmented x (r .count - 1) (r .countdown)) (unfragmented x (r .countdown)))
+    let m = bitsIn (messageOf (bodyOf (bitsOf h)) (bitsOf h)) in
+    let x : Header = record { raw = rawOf h; for-us = for-unit s (r .fields); fields = r .fields; bits = m } in
+    unfaulted (r .fault)
+    (cond (eqb (r .fragmented) 1) (fragmented x (r .count - 1) (r .countdown)) (unfragmented x (r .countdown)))
 
 abbrev pub blockHeard : List ℕ → Continuation → Heard
-blockHeard b r = let m = bitsIn (blockMessage (bitsOf b)) in unfaulted (r .fault) (cond (eqb (r .last) 1) (end m) (frag m))
+blockHeard b r =
+    let m = bitsIn (blockMessage (bitsOf b)) in unfaulted (r .fault) (cond (eqb (r .last) 1) (end m) (frag m))
 
 -- The header of a report of kind 2, as it reads.
 abbrev pub headerIn : Lent → read.Header

@@ -1,5 +1,5 @@
--- A report before any receiver is touched: what it brings, and what it comes to.
+-- A report before any receiver is touched: what it is refused for, and what it brings.
 pub mod Lent
 pub mod Turns
 pub mod Units
-pub mod Rules
+pub mod Reading

@@ -1,7 +1,9 @@
--- A countdown falls by one with each frame, at slot 1.
-use mathlib.Core.Bool.{cond}
-use Prim.Native.Nat.{ℕ, _-_}
+-- A place as the receiver keeps it: slot 0 where no report has been heard.
+use mathlib.Core.Bool.{Bool, true, cond}
 use lib.Dec.{eqb}
+use Rattle.history.specs.Slots.{same-place, next}
+use Rattle.history.specs.declared.Place.{Place}
 
-abbrev pub waned : ℕ → ℕ → ℕ
-waned slot n = cond (eqb slot 1) (n - 1) n
+-- A report follows it that is next in turn, or the first.
+abbrev pub follows : Place → Place → Bool
+follows p q = cond (eqb (p .slot) 0) true (same-place q (next p))

@@ -2,28 +2,43 @@
 ghost use mathlib.Core.Path.{_≡_};
 ghost use Rattle.blocks.specs.Faults.{firstOf};
 ghost use Rattle.reports.specs.Lent.{heardSlot, brought, reportRules};
+use blocks::fault::Fault;
 use blocks::sizes::SchF;
 use blocks::sizes::SchH;
 use blocks::sizes::SchS;
 
-// Whether a report of this kind lends so many bytes: 1 brings nothing, 2 SCH/S with SCH/H, 3 SCH/F.
-pub(crate) fn brings(kind: u8, lent: usize) -> bool
+// What a report brings.
+pub struct Kind {}
+
+impl Kind {
+    // Nothing: 0 bytes.
+    pub const SILENCE: u8 = 1;
+
+    // SCH/S, then SCH/H: 24 bytes.
+    pub const HEADER: u8 = 2;
+
+    // SCH/F: 34 bytes.
+    pub const BLOCK: u8 = 3;
+}
+
+// Whether a report of this kind lends so many bytes.
+fn brings(kind: u8, lent: usize) -> bool
     ensures { λ r. ⌜ r ≡ brought kind lent ⌝ }
 {
-    if kind == 1 {
+    if kind == Kind::SILENCE {
         return lent == 0;
     }
-    if kind == 2 {
+    if kind == Kind::HEADER {
         return lent == SchS::BYTES + SchH::BYTES;
     }
-    if kind == 3 {
+    if kind == Kind::BLOCK {
         return lent == SchF::BYTES;
     }
     false
 }
 
 // Whether it is a slot that reports name.
-pub(crate) fn heard_slot(slot: u8) -> bool
+fn heard_slot(slot: u8) -> bool
     ensures { λ r. ⌜ r ≡ heardSlot slot ⌝ }
 {
     if slot == 1 {
@@ -37,19 +52,19 @@ pub fn report_rules(frame: u8, slot: u8, kind: u8, lent: usize, buffer: usize) -
     ensures { λ r. ⌜ r ≡ firstOf (reportRules frame slot kind lent buffer) ⌝ }
 {
     if frame < 1 {
-        return 15;
+        return Fault::REPORT_FRAME;
     }
     if 18 < frame {
-        return 15;
+        return Fault::REPORT_FRAME;
     }
     if !heard_slot(slot) {
-        return 16;
+        return Fault::REPORT_SLOT;
     }
     if !brings(kind, lent) {
-        return 1;
+        return Fault::LENGTH;
     }
     if buffer < 512 {
-        return 17;
+        return Fault::BUFFER;
     }
     0
 }

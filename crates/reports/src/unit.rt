@@ -1,7 +1,7 @@
 // The settings of a unit, and what is for it.
 ghost use mathlib.Core.Path.{_≡_};
 ghost use Rattle.reports.specs.Lent.{for-unit};
-ghost use Rattle.reports.specs.Units.{settingsFit};
+ghost use Rattle.reports.specs.Units.{fit};
 use blocks::header::Fields;
 
 // One individual address, one group address and one MNI, each below 2^24.
@@ -12,22 +12,25 @@ pub struct Settings {
     pub mni: u32,
 }
 
-// Whether each of the settings is below 2^24.
-pub fn settings_fit(individual: u32, group: u32, mni: u32) -> bool
-    ensures { λ r. ⌜ r ≡ settingsFit individual group mni ⌝ }
-{
-    if 16777215 < individual {
-        return false;
-    }
-    if 16777215 < group {
-        return false;
-    }
-    mni <= 16777215
-}
-
 impl Settings {
+    // The largest that each can be.
+    pub const MOST: u32 = 16777215;
+
+    // Whether each of them is below 2^24.
+    pub fn fit(self) -> bool
+        ensures { λ r. ⌜ r ≡ fit self ⌝ }
+    {
+        if Settings::MOST < self.individual {
+            return false;
+        }
+        if Settings::MOST < self.group {
+            return false;
+        }
+        self.mni <= Settings::MOST
+    }
+
     // Whether a header with these fields is for this unit.
-    pub fn meant(self, g: Fields) -> bool
+    pub(crate) fn meant(self, g: Fields) -> bool
         ensures { λ r. ⌜ r ≡ for-unit self g ⌝ }
     {
         let d = g.destination;

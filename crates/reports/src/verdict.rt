@@ -1,156 +1,145 @@
-// What a report comes to, before anything is changed.
+// What a report comes to, before anything is changed: the rules, side by side. `lost` where an open assembly was
+// broken off.
 ghost use mathlib.Core.Path.{_≡_};
-ghost use Rattle.history.specs.Slots.{no-fields};
-ghost use Rattle.reports.specs.Rules.{verdictOf, headerVerdict, nothingFor};
-ghost use Rattle.reports.specs.Rules.{fragFor, endFor, fragmentedFor, unfragmentedFor};
-use blocks::header::Address;
-use blocks::header::Fields;
-use blocks::header::Header;
+ghost use mathlib.Core.Bool.{cond, not};
+ghost use Prim.Native.Nat.{_≤_};
+ghost use Rattle.history.specs.Step.{verdict, missed, passed, on-nothing, on-frag, on-end};
+ghost use Rattle.history.specs.Step.{on-fragmented, on-unfragmented, judge};
+use crate::near::repeats;
+use crate::read::Brought;
+use crate::run::is_due;
+use crate::run::renews;
+use history::Act;
+use history::Near;
+use history::Open;
+use history::Outcome;
+use history::Place;
+use history::Verdict;
+use history::What;
 
-// Outcome, mark and fault of the answer. `act` is what becomes of the assembly: 0 it stays, 1 it ends, 2 the header opens one, 3 it takes the block.
-// `near` is 1 where the header is the nearest for this unit from now on; then its countdown, its slot count where it opens an assembly, its SCH/H
-// but for the countdown, and its fields. The message bits that are brought are `bits`, from bit `from` of the block on.
-pub struct Verdict {
-    pub outcome: u8,
-    pub dropped: u8,
-    pub fault: u8,
-    pub act: u8,
-    pub near: u8,
-    pub countdown: u8,
-    pub count: u8,
-    pub from: usize,
-    pub bits: usize,
-    pub raw: [u64; 2],
-    pub fields: Fields,
-}
-
-// No fields.
-pub fn no_fields() -> Fields
-    ensures { λ r. ⌜ r ≡ no-fields ⌝ }
+fn verdict(outcome: u8, dropped: bool, act: Act, near: bool) -> Verdict
+    ensures { λ r. ⌜ r ≡ verdict outcome dropped act near ⌝ }
 {
-    Fields {
-        destination: Address { kind: 0, ssi: 0 },
-        source: Address { kind: 0, ssi: 0 },
-        mni: 0,
-        message: 0,
-        width: 0,
-        elements: 0,
+    Verdict {
+        outcome,
+        dropped,
+        act,
+        near,
     }
 }
 
-impl Verdict {
-    // One without a header.
-    pub fn of(outcome: u8, dropped: u8, fault: u8, act: u8, from: usize, bits: usize) -> Verdict
-        ensures { λ r. ⌜ r ≡ verdictOf outcome dropped fault act from bits ⌝ }
-    {
-        Verdict {
-            outcome,
-            dropped,
-            fault,
-            act,
-            near: 0,
-            countdown: 0,
-            count: 0,
-            from,
-            bits,
-            raw: [0; 2],
-            fields: no_fields(),
-        }
-    }
+// The due block was not heard: the assembly ends, and the mark tells of it.
+fn missed() -> Verdict
+    ensures { λ r. ⌜ r ≡ missed ⌝ }
+{
+    verdict(Outcome::NOTHING, true, Act::Ends, false)
+}
 
-    // One on a header for this unit.
-    fn on(
-        outcome: u8,
-        dropped: u8,
-        act: u8,
-        count: u8,
-        from: usize,
-        bits: usize,
-        x: Header,
-        raw: [u64; 2],
-    ) -> Verdict
-        ensures { λ r. ⌜ r ≡ headerVerdict outcome dropped act count from bits x raw ⌝ }
-    {
-        let fields = x.fields;
-        Verdict {
-            outcome,
-            dropped,
-            fault: 0,
-            act,
-            near: 1,
-            countdown: x.countdown,
-            count,
-            from,
-            bits,
-            raw,
-            fields,
-        }
-    }
+// A block that is not due changes nothing.
+fn passed(lost: bool) -> Verdict
+    ensures { λ r. ⌜ r ≡ passed lost ⌝ }
+{
+    verdict(Outcome::NOTHING, lost, Act::Stays, false)
 }
 
 // Nothing was heard, or a block with a fault.
-pub fn on_nothing(due: bool, fault: u8, lost: u8) -> Verdict
-    ensures { λ r. ⌜ r ≡ nothingFor due fault lost ⌝ }
+fn on_nothing(due: bool, lost: bool) -> Verdict
+    ensures { λ r. ⌜ r ≡ on-nothing due lost ⌝ }
 {
     if due {
-        return Verdict::of(0, 1, fault, 1, 0, 0);
+        return missed();
     }
-    Verdict::of(0, lost, fault, 0, 0, 0)
+    passed(lost)
 }
 
-// A DMAC-FRAG was heard; `full` where only the last block is still to come.
-pub fn on_frag(due: bool, full: bool, from: usize, bits: usize, lost: u8) -> Verdict
-    ensures { λ r. ⌜ r ≡ fragFor due full from bits lost ⌝ }
+// A DMAC-FRAG was heard; `last` where only the last block is still to come.
+fn on_frag(due: bool, last: bool, lost: bool) -> Verdict
+    ensures { λ r. ⌜ r ≡ on-frag due last lost ⌝ }
 {
     if !due {
-        return Verdict::of(0, lost, 0, 0, 0, 0);
+        return passed(lost);
     }
-    if full {
-        return Verdict::of(0, 1, 0, 1, 0, 0);
+    if last {
+        return missed();
     }
-    Verdict::of(4, lost, 0, 3, from, bits)
+    verdict(Outcome::KEPT, lost, Act::Takes, false)
 }
 
 // A DMAC-END was heard.
-pub fn on_end(due: bool, full: bool, from: usize, bits: usize, lost: u8) -> Verdict
-    ensures { λ r. ⌜ r ≡ endFor due full from bits lost ⌝ }
+fn on_end(due: bool, last: bool, lost: bool) -> Verdict
+    ensures { λ r. ⌜ r ≡ on-end due last lost ⌝ }
 {
     if !due {
-        return Verdict::of(0, lost, 0, 0, 0, 0);
+        return passed(lost);
     }
-    if !full {
-        return Verdict::of(0, 1, 0, 1, 0, 0);
+    if !last {
+        return missed();
     }
-    Verdict::of(2, lost, 0, 1, from, bits)
+    verdict(Outcome::JOINED, lost, Act::Ends, false)
 }
 
-// A fragmented header was heard; `mark` is the one that it leaves on an open assembly.
-pub fn on_fragmented(meant: bool, mark: u8, x: Header, raw: [u64; 2]) -> Verdict
-    ensures { λ r. ⌜ r ≡ fragmentedFor meant mark x raw ⌝ }
+// The mark that a fragmented header leaves: an open assembly ends, but where the header renews it.
+fn mark(held: bool, renewed: bool, lost: bool) -> bool
+    ensures { λ r. ⌜ r ≡ cond held (not renewed) lost ⌝ }
 {
+    if held {
+        return !renewed;
+    }
+    lost
+}
+
+// A fragmented header was heard.
+fn on_fragmented(meant: bool, held: bool, renewed: bool, lost: bool) -> Verdict
+    ensures { λ r. ⌜ r ≡ on-fragmented meant held renewed lost ⌝ }
+{
+    let dropped = mark(held, renewed, lost);
     if !meant {
-        return Verdict::of(0, mark, 0, 1, 0, 0);
+        return verdict(Outcome::NOTHING, dropped, Act::Ends, false);
     }
-    Verdict::on(3, mark, 2, x.count, x.first, x.bits, x, raw)
+    verdict(Outcome::OPENED, dropped, Act::Opens, true)
 }
 
-// An unfragmented header was heard.
-pub fn on_unfragmented(
-    due: bool,
-    meant: bool,
-    copied: bool,
-    lost: u8,
-    x: Header,
-    raw: [u64; 2],
-) -> Verdict
-    ensures { λ r. ⌜ r ≡ unfragmentedFor due meant copied lost x raw ⌝ }
+// An unfragmented header was heard: to an open assembly it is as if nothing was heard.
+fn on_unfragmented(due: bool, meant: bool, copied: bool, lost: bool) -> Verdict
+    ensures { λ r. ⌜ r ≡ on-unfragmented due meant copied lost ⌝ }
 {
-    let p = on_nothing(due, 0, lost);
+    let p = on_nothing(due, lost);
     if !meant {
         return p;
     }
+    let act = p.act;
     if copied {
-        return Verdict::on(5, p.dropped, p.act, 0, 0, 0, x, raw);
+        return verdict(Outcome::COPY, p.dropped, act, true);
     }
-    Verdict::on(1, p.dropped, p.act, 0, x.first, x.bits, x, raw)
+    verdict(Outcome::UNFRAGMENTED, p.dropped, act, true)
+}
+
+// By what the report in slot `q` brings, over what is left of the open run and of the nearest header.
+pub fn judge(x: Brought, a: Open, n: Near, q: Place, lost: bool) -> Verdict
+    requires { ⌜ (a .frame ≤ 18) × (a .countdown ≤ 3) × (a .kept ≤ 14) ⌝ }
+    ensures { λ r. ⌜ r ≡ judge (x .what) a n q (x .meant) (x .raw) (x .countdown) lost ⌝ }
+{
+    let due = is_due(a, q);
+    let last = a.kept == a.more;
+    let raw = x.raw;
+    let what = x.what;
+    match what {
+        What::Nothing => {
+            return on_nothing(due, lost);
+        }
+        What::Fragmented => {
+            let renewed = renews(a, x.meant, raw, x.countdown);
+            return on_fragmented(x.meant, a.held == 1, renewed, lost);
+        }
+        What::Unfragmented => {
+            let near = n.raw;
+            let copied = repeats(near, n.again, raw, x.countdown);
+            return on_unfragmented(due, x.meant, copied, lost);
+        }
+        What::Frag => {
+            return on_frag(due, last, lost);
+        }
+        What::End => {}
+    }
+    on_end(due, last, lost)
 }

@@ -5,17 +5,18 @@ use mathlib.Core.List.{List, [], _∷_, _++_}
 use mathlib.Core.Logic.{_⊎_, inl, inr, ⊎-elim}
 use Prim.Native.Nat.{ℕ, zero, suc, _+_, _-_, _*_, _≤_, _<_}
 use native.Mathlib.Omega.{arith}
-use lib.Dec.{eqb, leb, ltb}
+use lib.Dec.{eqb, leb, ltb, lit<}
 use lib.ListN.{length, drop, length-append, length-drop, List·getD-append}
 use lib.Seq.{take-append-le, drop-append-le}
 use borrow.Author.Tests.{leb-true, eqb-true, eqb-false, ltb-true, ltb-false, eq-eqb, ne-eqb, lt-ltb, le-ltb}
 use Rattle.records.specs.Numbers.{twoAt}
 use Rattle.reports.specs.Lent.{Lent}
-use Rattle.slotlog.specs.Log.{bodyOf, isReport, wholeOf, nextIn, reportIn, isFirst, Entry, report, other, cut, entry, entriesFor, entries}
+use Rattle.slotlog.specs.Log.{bodyOf, isReport, wholeOf, nextIn, reportIn, isFirst, Entry, report, other, cut}
+use Rattle.slotlog.specs.Log.{entry, entriesFor, entries}
 use Rattle.slotlog.specs.declared.log.Next.{Next}
 use Rattle.slotlog.specs.declared.log.Next.the-variants.{End, Part, Cut, Other, Report}
 
-and-first : (a b : Bool) → (a && b) ≡ true → a ≡ true
+pub and-first : (a b : Bool) → (a && b) ≡ true → a ≡ true
 and-first true b e = refl
 and-first false b e = e
 
@@ -64,7 +65,8 @@ module _ (w : List ℕ) where
   abbrev chosen : Bool → Bool → Bool → Bool → Next
   chosen a b c d = cond a End (cond b Part (cond c Cut (cond d Part (wholeOf (twoAt w 2) (twoAt w 0 - 2)))))
 
-  ready-when : (a b c d : Bool) → ltb (length w) 2 ≡ b → ltb (twoAt w 0) 2 ≡ c → ltb (length w) (twoAt w 0 + 2) ≡ d → Ready (chosen a b c d)
+  ready-when : (a b c d : Bool) → ltb (length w) 2 ≡ b → ltb (twoAt w 0) 2 ≡ c → ltb (length w) (twoAt w 0 + 2) ≡ d
+      → Ready (chosen a b c d)
       → (2 ≤ length w) × ((twoAt w 0 < 2) ⊎ Whole w)
   ready-when true b c d f g h r = absurd r
   ready-when false true c d f g h r = absurd r
@@ -75,7 +77,9 @@ module _ (w : List ℕ) where
 
   ready : Ready (nextIn w) → (2 ≤ length w) × ((twoAt w 0 < 2) ⊎ Whole w)
   unfolding nextIn
-  ready r = ready-when (eqb (length w) 0) (ltb (length w) 2) (ltb (twoAt w 0) 2) (ltb (length w) (twoAt w 0 + 2)) refl refl refl r
+  ready r =
+      ready-when (eqb (length w) 0) (ltb (length w) 2) (ltb (twoAt w 0) 2) (ltb (length w) (twoAt w 0 + 2)) refl refl
+      refl r
 
   whole-when : (a b c d : Bool) → ltb (twoAt w 0) 2 ≡ c → ltb (length w) (twoAt w 0 + 2) ≡ d → Sized (chosen a b c d)
       → (chosen a b c d ≡ wholeOf (twoAt w 2) (twoAt w 0 - 2)) × Whole w
@@ -87,7 +91,8 @@ module _ (w : List ℕ) where
 
   whole : Sized (nextIn w) → (nextIn w ≡ wholeOf (twoAt w 2) (twoAt w 0 - 2)) × Whole w
   unfolding nextIn
-  whole r = whole-when (eqb (length w) 0) (ltb (length w) 2) (ltb (twoAt w 0) 2) (ltb (length w) (twoAt w 0 + 2)) refl refl r
+  whole r =
+      whole-when (eqb (length w) 0) (ltb (length w) 2) (ltb (twoAt w 0) 2) (ltb (length w) (twoAt w 0 + 2)) refl refl r
 
   -- what is left where there is no record: nothing, or something
   left-when : (a b c d : Bool) → eqb (length w) 0 ≡ a → Left (length w) (chosen a b c d)
@@ -95,14 +100,17 @@ module _ (w : List ℕ) where
   left-when false true c d e = let n = eqb-false (length w) 0 e in omega arith
   left-when false false true d e = tt
   left-when false false false true e = let n = eqb-false (length w) 0 e in omega arith
-  left-when false false false false e = whole-left (length w) (ltb (twoAt w 0 - 2) (bodyOf (twoAt w 2))) (isReport (twoAt w 2) && eqb (twoAt w 0 - 2) (bodyOf (twoAt w 2))) (twoAt w 0 - 2 + 4)
+  left-when false false false false e =
+      whole-left (length w) (ltb (twoAt w 0 - 2) (bodyOf (twoAt w 2)))
+      (isReport (twoAt w 2) && eqb (twoAt w 0 - 2) (bodyOf (twoAt w 2))) (twoAt w 0 - 2 + 4)
 
   left : Left (length w) (nextIn w)
   unfolding nextIn
   left = left-when (eqb (length w) 0) (ltb (length w) 2) (ltb (twoAt w 0) 2) (ltb (length w) (twoAt w 0 + 2)) refl
 
 -- a whole record's size, and a report's kind
-size-when : (a b : Bool) (m n : ℕ) → Sized (cond a Cut (cond b (Report m) (Other m))) → cond a Cut (cond b (Report m) (Other m)) ≡ Other n → m ≡ n
+size-when : (a b : Bool) (m n : ℕ) → Sized (cond a Cut (cond b (Report m) (Other m)))
+    → cond a Cut (cond b (Report m) (Other m)) ≡ Other n → m ≡ n
 size-when true b m n s e = absurd s
 size-when false true m n s e = let z : _≡_ {A = ℕ} 0 1 = cc in absurd (omega arith)
 size-when false false m n s e = cc
@@ -118,7 +126,9 @@ other-size w n e =
     let k = whole w s in
     let m = twoAt w 0 - 2 in
     let q : wholeOf (twoAt w 2) m ≡ Other n = sym (k .0) ∙ e in
-    let z = size-when (ltb m (bodyOf (twoAt w 2))) (isReport (twoAt w 2) && eqb m (bodyOf (twoAt w 2))) (m + 4) n (rw (sym (k .0)) s) q in
+    let z =
+    size-when (ltb m (bodyOf (twoAt w 2))) (isReport (twoAt w 2) && eqb m (bodyOf (twoAt w 2))) (m + 4) n
+    (rw (sym (k .0)) s) q in
     (omega arith, omega (arith, k .1 .0, k .1 .1))
 
 pub record ReportAt (w : List ℕ) (n : ℕ) : Type 0 where
@@ -129,7 +139,8 @@ pub record ReportAt (w : List ℕ) (n : ℕ) : Type 0 where
 body-least : (kind : ℕ) → 1 ≤ kind → kind ≤ 3 → 2 ≤ bodyOf kind
 body-least kind a b = least-when (eqb kind 0) (eqb kind 1) (eqb kind 2) (eqb kind 3) refl refl refl refl
   where
-    least-when : (p q r s : Bool) → eqb kind 0 ≡ p → eqb kind 1 ≡ q → eqb kind 2 ≡ r → eqb kind 3 ≡ s → 2 ≤ cond p 12 (cond q 2 (cond r 26 (cond s 36 0)))
+    least-when : (p q r s : Bool) → eqb kind 0 ≡ p → eqb kind 1 ≡ q → eqb kind 2 ≡ r → eqb kind 3 ≡ s
+        → 2 ≤ cond p 12 (cond q 2 (cond r 26 (cond s 36 0)))
     least-when true q r s e f g h = omega arith
     least-when false true r s e f g h = omega arith
     least-when false false true s e f g h = omega arith
@@ -152,12 +163,30 @@ report-at w n e =
     let b = eqb-true m (bodyOf kind) (and-second (isReport kind) (eqb m (bodyOf kind)) (z .0)) in
     let low = leb-true 1 kind (and-first (leb 1 kind) (leb kind 3) r) in
     let high = leb-true kind 3 (and-second (leb 1 kind) (leb kind 3) r) in
-    record { least = omega (arith, z .1, body-least kind low high); there = omega (arith, z .1, k .1 .0, k .1 .1); kind = high }
+    record {
+      least = omega (arith, z .1, body-least kind low high);
+      there = omega (arith, z .1, k .1 .0, k .1 .1);
+      kind = high;
+    }
+
+pub report-least : (w : List ℕ) (n : ℕ) → nextIn w ≡ Report n → 6 ≤ n
+report-least w n e = report-at w n e .least
+
+pub report-there : (w : List ℕ) (n : ℕ) → nextIn w ≡ Report n → n ≤ length w
+report-there w n e = report-at w n e .there
+
+pub report-has : (w : List ℕ) (n i : ℕ) → nextIn w ≡ Report n → i < 6 → i < length w
+report-has w n i e h = let r = report-at w n e in omega (arith, r .least, r .there)
+
+-- a report that was found is there: `search found`
+pub ruleset found = (tt, lit<, report-least, report-there, report-has, arith)
 
 -- ---- what follows does not matter
 
 two-same : (at : ℕ) (w z : List ℕ) → at + 2 ≤ length w → twoAt (w ++ z) at ≡ twoAt w at
-two-same at w z h = ap₂ (λ (a b : ℕ). a + 256 * b) (List·getD-append w z 0 at (omega arith)) (List·getD-append w z 0 (at + 1) (omega arith))
+two-same at w z h =
+    ap₂ (λ (a b : ℕ). a + 256 * b) (List·getD-append w z 0 at (omega arith))
+    (List·getD-append w z 0 (at + 1) (omega arith))
 
 pub next-same : (w z : List ℕ) → Ready (nextIn w) → nextIn (w ++ z) ≡ nextIn w
 unfolding nextIn
@@ -188,11 +217,17 @@ next-same w z r =
       le-ltb (length w) (twoAt w 0 + 2) (h .1),
     ) refl) (k .1)
 
-pub report-same : (w z : List ℕ) (n : ℕ) → ReportAt w n → reportIn n (w ++ z) ≡ reportIn n w
+report-same : (w z : List ℕ) (n : ℕ) → ReportAt w n → reportIn n (w ++ z) ≡ reportIn n w
 report-same w z n r =
     let h = r .least in
     let l = r .there in
-    rw (List·getD-append w z 0 4 (omega arith), List·getD-append w z 0 5 (omega arith), List·getD-append w z 0 2 (omega arith), List·getD-append w z 0 3 (omega arith), take-append-le n w z l) refl
+    rw (
+      List·getD-append w z 0 4 (omega arith),
+      List·getD-append w z 0 5 (omega arith),
+      List·getD-append w z 0 2 (omega arith),
+      List·getD-append w z 0 3 (omega arith),
+      take-append-le n w z l,
+    ) refl
 
 -- ---- the records one by one
 
@@ -202,7 +237,9 @@ entry-same w End e f g h = refl
 entry-same w Part e f g h = refl
 entry-same w Cut e f g h = refl
 entry-same w (Other n) e f g h = let s = other-size w n e in ap (λ (es : List Entry). other ∷ es) (h n (s .0) (s .1))
-entry-same w (Report n) e f g h = let s = report-at w n e in ap (λ (es : List Entry). report (reportIn n w) ∷ es) (h n (omega (arith, s .least)) (s .there))
+entry-same w (Report n) e f g h =
+    let s = report-at w n e in
+    ap (λ (es : List Entry). report (reportIn n w) ∷ es) (h n (omega (arith, s .least)) (s .there))
 
 none-left : (w : List ℕ) → length w ≡ 0 → nextIn w ≡ End
 unfolding nextIn
@@ -221,10 +258,11 @@ entries-when : (k : ℕ) (w : List ℕ) → length w ≡ k → entriesFor k w �
 unfolding entriesFor entries
 entries-when zero w e = rw (none-left w e) refl
 entries-when (suc k) w e =
-    entry-same w (nextIn w) refl (entriesFor k) entries (λ n h l. fuel-same k (length (drop n w)) (drop n w) (omega (arith, length-drop n w)) (omega arith))
+    entry-same w (nextIn w) refl (entriesFor k) entries
+    (λ n h l. fuel-same k (length (drop n w)) (drop n w) (omega (arith, length-drop n w)) (omega arith))
 
 -- the first of the records, and then the others
-pub entries-next : (w : List ℕ) → entries w ≡ entry (nextIn w) w entries
+entries-next : (w : List ℕ) → entries w ≡ entry (nextIn w) w entries
 unfolding entries
 entries-next w = entries-when (length w) w refl
 
@@ -234,12 +272,15 @@ module _ (w z : List ℕ) where
   entries-more x e r = entries-next (w ++ z) ∙ ap (λ (y : Next). entry y (w ++ z) entries) (next-same w z (rw e r) ∙ e)
 
   pub entries-other : (n : ℕ) → nextIn w ≡ Other n → entries (w ++ z) ≡ other ∷ entries (drop n w ++ z)
-  entries-other n e = entries-more (Other n) e tt ∙ ap (λ (l : List ℕ). other ∷ entries l) (drop-append-le n w z (other-size w n e .1))
+  entries-other n e =
+      entries-more (Other n) e tt ∙ ap (λ (l : List ℕ). other ∷ entries l) (drop-append-le n w z (other-size w n e .1))
 
-  pub entries-report : (n : ℕ) → nextIn w ≡ Report n → entries (w ++ z) ≡ report (reportIn n w) ∷ entries (drop n w ++ z)
+  pub entries-report : (n : ℕ) → nextIn w ≡ Report n
+      → entries (w ++ z) ≡ report (reportIn n w) ∷ entries (drop n w ++ z)
   entries-report n e =
       let s = report-at w n e in
-      entries-more (Report n) e tt ∙ ap₂ (λ (l : Lent) (r : List ℕ). report l ∷ entries r) (report-same w z n s) (drop-append-le n w z (s .there))
+      entries-more (Report n) e tt
+      ∙ ap₂ (λ (l : Lent) (r : List ℕ). report l ∷ entries r) (report-same w z n s) (drop-append-le n w z (s .there))
 
   pub entries-cut : nextIn w ≡ Cut → entries (w ++ z) ≡ cut ∷ []
   entries-cut e = entries-more Cut e tt

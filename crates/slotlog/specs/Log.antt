@@ -1,5 +1,5 @@
--- The records of a slot log (document 01, 'The slot log and its printer'). A record is two bytes length of what follows, two bytes kind, body; numbers have
--- their lowest byte first.
+-- The records of a slot log (document 01, 'The slot log and its printer'). A record is two bytes length of what
+-- follows, two bytes kind, body; numbers have their lowest byte first.
 use mathlib.Core.Bool.{Bool, cond, _&&_}
 use mathlib.Core.List.{List, [], _∷_}
 use Prim.Native.Nat.{ℕ, zero, suc, _+_, _-_}
@@ -9,12 +9,14 @@ use Rattle.records.specs.Numbers.{twoAt, fourAt}
 use Rattle.reports.specs.Lent.{Lent}
 use Rattle.reports.specs.Units.{settingsFit}
 use Rattle.reports.specs.declared.unit.Settings.{Settings}
-use Rattle.receiver.specs.Held.{newReceiver, freshOf}
+use Rattle.receiver.specs.View.{newReceiver, freshOf}
 use Rattle.receiver.specs.declared.Fresh.{Fresh}
+use Rattle.slotlog.specs.declared.log.Begun.{Begun}
 use Rattle.slotlog.specs.declared.log.Next.{Next}
 use Rattle.slotlog.specs.declared.log.Next.the-variants.{End, Part, Cut, Other, Report}
 
--- The bytes of a kind's body: settings; a frame and a slot; the same with SCH/S and SCH/H; the same with SCH/F. An unknown kind asks for none.
+-- The bytes of a kind's body: settings; a frame and a slot; the same with SCH/S and SCH/H; the same with SCH/F. An
+-- unknown kind asks for none.
 abbrev pub bodyOf : ℕ → ℕ
 bodyOf kind = cond (eqb kind 0) 12 (cond (eqb kind 1) 2 (cond (eqb kind 2) 26 (cond (eqb kind 3) 36 0)))
 
@@ -22,13 +24,14 @@ bodyOf kind = cond (eqb kind 0) 12 (cond (eqb kind 1) 2 (cond (eqb kind 2) 26 (c
 abbrev pub isReport : ℕ → Bool
 isReport kind = leb 1 kind && leb kind 3
 
--- A whole record, after the first, with n bytes of body: shorter than its kind it is cut; a report of its right length; any other is unknown, misplaced or
--- too long.
+-- A whole record, after the first, with n bytes of body: shorter than its kind it is cut; a report of its right length;
+-- any other is unknown, misplaced or too long.
 abbrev pub wholeOf : ℕ → ℕ → Next
-wholeOf kind n = cond (ltb n (bodyOf kind)) Cut (cond (isReport kind && eqb n (bodyOf kind)) (Report (n + 4)) (Other (n + 4)))
+wholeOf kind n =
+    cond (ltb n (bodyOf kind)) Cut (cond (isReport kind && eqb n (bodyOf kind)) (Report (n + 4)) (Other (n + 4)))
 
--- What stands next in the rest of a log, with the bytes that it takes: nothing; a record that runs past what is there; one that is cut whatever follows; a
--- report; or another one.
+-- What stands next in the rest of a log, with the bytes that it takes: nothing; a record that runs past what is there;
+-- one that is cut whatever follows; a report; or another one.
 unfoldable pub nextIn : List ℕ → Next
 nextIn w =
     cond (eqb (length w) 0) End
@@ -54,9 +57,19 @@ settingsAt w = record { individual = fourAt w 4; group = fourAt w 8; mni = fourA
 abbrev pub isUnit : List ℕ → Bool
 isUnit w = let s = settingsAt w in isFirst w && settingsFit (s .individual) (s .group) (s .mni)
 
--- The receiver that a log starts with; fault 13 where it starts with none.
-abbrev pub begunBy : List ℕ → Fresh
-begunBy w = let s = settingsAt w in cond (isFirst w) (freshOf (s .individual) (s .group) (s .mni)) (record { fault = 13; receiver = newReceiver 0 0 0 })
+-- The bytes that it takes.
+abbrev pub firstBytes : List ℕ → ℕ
+firstBytes w = 16
+
+-- The receiver that a log starts with and the bytes that its first record takes; fault 13 where it starts with none.
+abbrev pub begunAs : Fresh → ℕ → Begun
+begunAs f took = record { fault = f .fault; took = took; receiver = f .receiver }
+
+abbrev pub begunBy : List ℕ → Begun
+begunBy w =
+    let s = settingsAt w in
+    cond (isFirst w) (begunAs (freshOf (s .individual) (s .group) (s .mni)) (firstBytes w))
+    (record { fault = 13; took = 0; receiver = newReceiver 0 0 0 })
 
 -- ---- The records after it, to the end or to the first that is cut.
 

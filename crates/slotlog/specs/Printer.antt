@@ -1,19 +1,23 @@
--- The printer's meaning: its input comes in parts and its lines go out in parts, and whatever the parts are, what was printed is `printed` of the input. The
--- program reads after what is left of the input, calls `Run::part` on both, writes the lines, and writes `cut` where bytes are left over at the end.
+-- The printer's meaning: its input comes in parts and its lines go out in parts, and whatever the parts are, what was
+-- printed is `printed` of the input. The program reads after what is left of the input, calls `Run::part` on both,
+-- writes the lines, and writes `cut` where bytes are left over at the end.
 use mathlib.Core.Path.{_≡_}
 use mathlib.Core.List.{List, [], _++_}
 use Prim.Native.Nat.{ℕ}
-use lib.ListN.{length, take, drop}
+use lib.ListN.{take, drop}
 use Rattle.receiver.specs.declared.Receiver.{Receiver}
-use Rattle.receiver.specs.declared.Fresh.{Fresh}
 use Rattle.slotlog.specs.Log.{begunBy}
 use Rattle.slotlog.specs.Runs.{Ran}
+use Rattle.slotlog.specs.declared.log.Begun.{Begun}
 use Rattle.slotlog.specs.declared.run.Run.{Run}
 
--- After the first 16 bytes gave a receiver: the input so far, what is left of it to be read, the lines so far, the receiver, and the state of the last run.
+-- After the first record gave a receiver: the input so far, what is left of it to be read, the lines so far, the
+-- receiver, and the state of the last run.
 pub data Prints : (input left text : List ℕ) → Receiver → ℕ → Type 0 where
-  first : (input : List ℕ) (f : Fresh) → length input ≡ 16 → f ≡ begunBy input → f .fault ≡ 0 → Prints input [] [] (f .receiver) 0
-  more : {input left text : List ℕ} {r : Receiver} {state : ℕ} → Prints input left text r state → (state ≡ 2 → ⊥) → (part : List ℕ)
-      → Prints (input ++ part) (left ++ part) text r 0
-  run : {input left text : List ℕ} {r : Receiver} {state : ℕ} → Prints input left text r state → (state ≡ 2 → ⊥) → (old new : List ℕ) (x : Run) → Ran r left old x new
+  first : (input : List ℕ) (b : Begun) → b ≡ begunBy input → b .fault ≡ 0
+      → Prints input (drop (b .took) input) [] (b .receiver) 0
+  more : {input left text : List ℕ} {r : Receiver} {state : ℕ} → Prints input left text r state → (state ≡ 2 → ⊥)
+      → (part : List ℕ) → Prints (input ++ part) (left ++ part) text r 0
+  run : {input left text : List ℕ} {r : Receiver} {state : ℕ} → Prints input left text r state → (state ≡ 2 → ⊥)
+      → (old new : List ℕ) (x : Run) → Ran r left old x new
       → Prints input (drop (x .read) left) (text ++ take (x .written) new) (x .receiver) (x .state)

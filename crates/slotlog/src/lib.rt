@@ -1,5 +1,6 @@
-// The slot log: its records, the lines that are printed of them, and a run over a log.
+// The slot log: its records, the replies to them, the lines that are printed of these, and a run over a log.
 pub mod log;
-pub mod print;
+mod print;
+pub mod replies;
 pub mod room;
 pub mod run;

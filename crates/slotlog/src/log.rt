@@ -4,13 +4,33 @@ ghost use Prim.Native.Nat.{_≤_};
 ghost use lib.ListN.{length};
 ghost use Rattle.slotlog.specs.Log.{bodyOf, isReport, wholeOf, nextIn, isFirst, begunBy};
 ghost use Rattle.receiver.specs.Reached.{Reached};
-use receiver::Fresh;
+use blocks::sizes::SchF;
+use blocks::sizes::SchH;
+use blocks::sizes::SchS;
 use receiver::Receiver;
 use records::four;
 use records::two;
 
-// What stands next, with the bytes that it takes: nothing; a record that runs past what is there; one that is cut whatever follows; another one; a report.
-pub enum Next {
+// The kinds of a log's records.
+pub(crate) struct Kind {}
+
+impl Kind {
+    // The unit's settings, first in a log.
+    pub(crate) const SETTINGS: u16 = 0;
+
+    // A slot in which nothing was heard.
+    pub(crate) const SILENCE: u16 = 1;
+
+    // A slot with SCH/S and SCH/H.
+    pub(crate) const HEADER: u16 = 2;
+
+    // A slot with SCH/F.
+    pub(crate) const BLOCK: u16 = 3;
+}
+
+// What stands next, with the bytes that it takes: nothing; a record that runs past what is there; one that is cut
+// whatever follows; another one; a report.
+pub(crate) enum Next {
     End,
     Part,
     Cut,
@@ -22,17 +42,17 @@ pub enum Next {
 fn body_of(kind: u16) -> usize
     ensures { λ r. ⌜ r ≡ bodyOf kind ⌝ }
 {
-    if kind == 0 {
+    if kind == Kind::SETTINGS {
         return 12;
     }
-    if kind == 1 {
+    if kind == Kind::SILENCE {
         return 2;
     }
-    if kind == 2 {
-        return 26;
+    if kind == Kind::HEADER {
+        return 2 + SchS::BYTES + SchH::BYTES;
     }
-    if kind == 3 {
-        return 36;
+    if kind == Kind::BLOCK {
+        return 2 + SchF::BYTES;
     }
     0
 }
@@ -41,10 +61,10 @@ fn body_of(kind: u16) -> usize
 fn is_report(kind: u16) -> bool
     ensures { λ r. ⌜ r ≡ isReport kind ⌝ }
 {
-    if kind < 1 {
+    if kind < Kind::SILENCE {
         return false;
     }
-    kind <= 3
+    kind <= Kind::BLOCK
 }
 
 // A whole record with `n` bytes of body.
@@ -66,7 +86,7 @@ fn whole(kind: u16, n: usize) -> Next
 }
 
 // What stands next in the rest of a log.
-pub fn read(rest: &[u8]) -> Next
+pub(crate) fn read(rest: &[u8]) -> Next
     ensures { λ r. ⌜ r ≡ nextIn (now (rest .entry)) ⌝ }
 {
     if rest.len() == 0 {
@@ -85,33 +105,52 @@ pub fn read(rest: &[u8]) -> Next
     whole(two(rest[2], rest[3]), length - 2)
 }
 
+// The bytes of a log that tell how it starts.
+pub const FIRST: usize = 16;
+
+// How a log starts: 0 or 13, the bytes that its first record takes, and the receiver.
+pub struct Begun {
+    pub fault: u8,
+    pub took: usize,
+    pub receiver: Receiver,
+}
+
 // Whether a log starts with a whole kind 0 of its right length.
 fn is_first(log: &[u8]) -> bool
     ensures { λ r. ⌜ r ≡ isFirst (now (log .entry)) ⌝ }
 {
-    if log.len() < 16 {
+    if log.len() < FIRST {
         return false;
     }
     if two(log[0], log[1]) != 14 {
         return false;
     }
-    two(log[2], log[3]) == 0
+    two(log[2], log[3]) == Kind::SETTINGS
 }
 
-// The receiver with the settings that a log starts with; fault 13 where it starts with none, or with settings of 2^24 or more.
-pub fn begin(log: &[u8]) -> Fresh
-    ensures { λ r. ⌜ (r ≡ begunBy (now (log .entry))) × Reached (r .receiver) ⌝ }
+// The receiver with the settings that a log starts with, and the bytes that its first record takes; fault 13 where it
+// starts with none, or with settings of 2^24 or more.
+pub fn begin(log: &[u8]) -> Begun
+    ensures { λ r. ⌜ (r ≡ begunBy (now (log .entry))) × Reached (r .receiver)
+        × (r .took ≤ length (now (log .entry))) ⌝ }
 {
     if is_first(log) {
         let individual = four(log, 4);
         let group = four(log, 8);
         let mni = four(log, 12);
-        return Receiver::fresh(individual, group, mni);
+        let fresh = Receiver::fresh(individual, group, mni);
+        let receiver = fresh.receiver;
+        return Begun {
+            fault: fresh.fault,
+            took: FIRST,
+            receiver,
+        };
     }
     let none = Receiver::fresh(0, 0, 0);
     let receiver = none.receiver;
-    Fresh {
+    Begun {
         fault: 13,
+        took: 0,
         receiver,
     }
 }

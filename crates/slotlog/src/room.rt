@@ -7,7 +7,8 @@ ghost use lib.ListN.{length, take, drop};
 // Moves the bytes from place `from` up to place `to` to the start; those after them stay.
 pub fn to_start(room: &mut [u8], from: usize, to: usize)
     requires { ⌜ (from ≤ to) × (to ≤ length (now room)) ⌝ }
-    ensures { λ r. ⌜ now (room .exit) ≡ take (to - from) (drop from (now (room .entry))) ++ drop (to - from) (now (room .entry)) ⌝ }
+    ensures { λ r. ⌜ now (room .exit)
+        ≡ take (to - from) (drop from (now (room .entry))) ++ drop (to - from) (now (room .entry)) ⌝ }
 {
     let mut i = from;
     while i < to {

@@ -6,7 +6,7 @@ use Prim.Native.Nat.{ℕ, _+_, _-_, _*_, _%_, _^_, _≤_, _<_}
 use native.Mathlib.Omega.{arith}
 use borrow.Author.Tests.{eqb-true, eq-eqb}
 use lib.Dec.{eqb}
-use lib.ListN.{length, take, drop, getD, length-take, length-drop, take-append-drop}
+use lib.ListN.{length, take, drop, length-take, length-drop, take-append-drop}
 use lib.Seq.{take-all, take-take, drop-drop, length-take-le}
 use lib.Bits.{bitOr, or-shifted}
 use lib.Pow.{shl-exact}
@@ -14,25 +14,27 @@ use Rattle.bits.specs.Bits.{bit, num, bitsOf, over, field}
 use Rattle.bits.proofs.Numbers.{num-append, num-cut, drop-of-take, bitsN-num, bitsN-is}
 use Rattle.bits.proofs.Bytes.{length-bitsOf}
 use Rattle.bits.proofs.Over.{over-drop, length-over}
-use Rattle.store.specs.Store.{halves, without, same-numbers}
+use Rattle.store.specs.Store.{halves, without, same-raw}
+use Rattle.store.specs.declared.Raw.{Raw}
 use Rattle.store.proofs.Messages.{take-over}
 
--- ---- numbers compared
+-- ---- two blocks compared
 
-pub same-self : (a : List ℕ) → same-numbers a a ≡ true
-same-self [] = refl
-same-self (x ∷ xs) = rw (eq-eqb x x refl) (same-self xs)
-
-same-first : (x y : ℕ) (xs ys : List ℕ) (d : Bool) → eqb x y ≡ d → (same-numbers xs ys ≡ true → xs ≡ ys) → d && same-numbers xs ys ≡ true → x ∷ xs ≡ y ∷ ys
-same-first x y xs ys true t ih e = ap₂ _∷_ (eqb-true x y t) (ih e)
-same-first x y xs ys false t ih e = let z : _≡_ {A = ℕ} 0 1 = cc in absurd (omega arith)
+both : (p q : Bool) → p && q ≡ true → (p ≡ true) × (q ≡ true)
+both true q e = (refl, e)
+both false q e = let z : _≡_ {A = ℕ} 0 1 = cc in absurd (omega arith)
 
 -- the same are equal
-pub same-is : (a b : List ℕ) → same-numbers a b ≡ true → a ≡ b
-same-is [] [] e = refl
-same-is [] (y ∷ ys) e = let z : _≡_ {A = ℕ} 0 1 = cc in absurd (omega arith)
-same-is (x ∷ xs) [] e = let z : _≡_ {A = ℕ} 0 1 = cc in absurd (omega arith)
-same-is (x ∷ xs) (y ∷ ys) e = same-first x y xs ys (eqb x y) refl (same-is xs ys) e
+pub same-is : (a b : Raw) → same-raw a b ≡ true → a ≡ b
+same-is a b e =
+    let t = both (eqb (a .high) (b .high)) (eqb (a .low) (b .low)) e in
+    let h = eqb-true (a .high) (b .high) (t .0) in
+    let l = eqb-true (a .low) (b .low) (t .1) in
+    λ i. record { high = h i; low = l i }
+
+-- and the other way round
+pub is-same : (a b : Raw) → a ≡ b → same-raw a b ≡ true
+is-same a b e = ap₂ _&&_ (eq-eqb (a .high) (b .high) (λ i. e i .high)) (eq-eqb (a .low) (b .low) (λ i. e i .low))
 
 -- ---- two numbers lose nothing
 
@@ -41,8 +43,10 @@ num-same a b l e = sym (bitsN-num a) ∙ bitsN-is (length a) (num a) b (sym l) (
 
 pub halves-same : (a b : List Bool) → length a ≡ length b → halves a ≡ halves b → a ≡ b
 halves-same a b l e =
-    let first = num-same (take 64 a) (take 64 b) (length-take 64 a ∙ rw l refl ∙ sym (length-take 64 b)) (ap (λ (x : List ℕ). getD x 0 0) e) in
-    let second = num-same (drop 64 a) (drop 64 b) (length-drop 64 a ∙ rw l refl ∙ sym (length-drop 64 b)) (ap (λ (x : List ℕ). getD x 1 0) e) in
+    let first =
+    num-same (take 64 a) (take 64 b) (length-take 64 a ∙ rw l refl ∙ sym (length-take 64 b)) (λ i. e i .high) in
+    let second =
+    num-same (drop 64 a) (drop 64 b) (length-drop 64 a ∙ rw l refl ∙ sym (length-drop 64 b)) (λ i. e i .low) in
     sym (take-append-drop 64 a) ∙ ap₂ _++_ first second ∙ take-append-drop 64 b
 
 -- two blocks that are the same but for two bits have the same numbers, and no others have
@@ -52,21 +56,9 @@ without-same at h k l w e =
     let two : List Bool = false ∷ false ∷ [] in
     let n : length (bitsOf h) ≡ length (bitsOf k) = omega (arith, length-bitsOf h, length-bitsOf k) in
     halves-same (over at two (bitsOf h)) (over at two (bitsOf k))
-    (length-over at two (bitsOf h) (omega (arith, length-bitsOf h)) ∙ n ∙ sym (length-over at two (bitsOf k) (omega (arith, length-bitsOf k)))) e
-
-and-end : (d : Bool) → d && true ≡ d
-and-end true = refl
-and-end false = refl
-
--- of two each, the first and the second
-pub same-two : (a b : List ℕ) → length a ≡ 2 → length b ≡ 2 → same-numbers a b ≡ eqb (getD a 0 0) (getD b 0 0) && eqb (getD a 1 0) (getD b 1 0)
-same-two (x ∷ y ∷ []) (u ∷ v ∷ []) h k = ap (_&&_ (eqb x u)) (and-end (eqb y v))
-same-two [] b h k = absurd (omega arith)
-same-two (x ∷ []) b h k = absurd (omega arith)
-same-two (x ∷ y ∷ z ∷ zs) b h k = absurd (omega arith)
-same-two (x ∷ y ∷ []) [] h k = absurd (omega arith)
-same-two (x ∷ y ∷ []) (u ∷ []) h k = absurd (omega arith)
-same-two (x ∷ y ∷ []) (u ∷ v ∷ w ∷ ws) h k = absurd (omega arith)
+    (length-over at two (bitsOf h) (omega (arith, length-bitsOf h)) ∙ n
+    ∙ sym (length-over at two (bitsOf k) (omega (arith, length-bitsOf k))))
+    e
 
 -- ---- a block with two bits cleared
 
@@ -89,9 +81,11 @@ module _ (at : ℕ) (b : List Bool) (l : length b ≡ 128) (h : at ≤ 62) where
   first-half =
       let f = take 64 b in
       let y = drop (at + 2) f in
-      let ly : length (false ∷ false ∷ y) ≡ 64 - at = omega (arith, length-drop (at + 2) f, length-take-le 64 b (omega arith)) in
+      let ly : length (false ∷ false ∷ y) ≡ 64 - at =
+      omega (arith, length-drop (at + 2) f, length-take-le 64 b (omega arith)) in
       let s : 64 ≡ (at + 2) + (62 - at) = omega arith in
-      let ey : y ≡ take (62 - at) (drop (at + 2) b) = ap (λ (n : ℕ). drop (at + 2) (take n b)) s ∙ drop-of-take (at + 2) (62 - at) b in
+      let ey : y ≡ take (62 - at) (drop (at + 2) b) =
+      ap (λ (n : ℕ). drop (at + 2) (take n b)) s ∙ drop-of-take (at + 2) (62 - at) b in
       ap num (take-over 64 at two b (omega arith) (omega arith))
       ∙ num-append (take at f) (false ∷ false ∷ y)
       ∙ rw (take-take at 64 b (omega arith), ly, zeros-first y, ey) refl

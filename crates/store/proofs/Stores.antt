@@ -23,15 +23,12 @@ abbrev pub padded : List Bool → List Bool
 padded b = b ++ replicate (4096 - length b) false
 
 pub length-padded : (b : List Bool) → length b ≤ 4096 → length (padded b) ≡ 4096
-length-padded b h = length-append b (replicate (4096 - length b) false) ∙ omega (arith, length-replicate (4096 - length b) false)
+length-padded b h =
+    length-append b (replicate (4096 - length b) false) ∙ omega (arith, length-replicate (4096 - length b) false)
 
 pub length-store : (b : List Bool) → length (storeOf b) ≡ 512
 unfolding storeOf
 length-store b = length-bytesN 512 _
-
-pub store-bytes : (b : List Bool) → AllBytes (storeOf b)
-unfolding storeOf
-store-bytes b = bytesN-bytes 512 _
 
 pub bits-store : (b : List Bool) → length b ≤ 4096 → bitsOf (storeOf b) ≡ padded b
 unfolding storeOf
@@ -55,7 +52,8 @@ store-is s b hs h e = bytes-are 512 s (padded b) hs (length-padded b h) e
 pub take-replicate : {A : Type 0} (k n : ℕ) (a : A) → take k (replicate n a) ≡ replicate (min k n) a
 take-replicate zero n a = let e : min 0 n ≡ 0 = omega arith in rw e refl
 take-replicate (suc k) zero a = let e : min (suc k) 0 ≡ 0 = omega arith in rw e refl
-take-replicate (suc k) (suc n) a = let e : min (suc k) (suc n) ≡ suc (min k n) = omega arith in rw e (ap (_∷_ a) (take-replicate k n a))
+take-replicate (suc k) (suc n) a =
+    let e : min (suc k) (suc n) ≡ suc (min k n) = omega arith in rw e (ap (_∷_ a) (take-replicate k n a))
 
 pub drop-replicate : {A : Type 0} (k n : ℕ) (a : A) → drop k (replicate n a) ≡ replicate (n - k) a
 drop-replicate zero n a = rw (sub-zero n) refl
@@ -85,14 +83,21 @@ join-bits b m h =
     let e : z - length m ≡ 4096 - length (b ++ m) = omega (arith, length-append b m) in
     ap (λ (k : ℕ). over k m (padded b)) (sym (add-zero (length b)))
     ∙ over-right 0 m b (replicate z false)
-    ∙ rw (zero-add (length m), drop-replicate (length m) z false, e, append-assoc b m (replicate (4096 - length (b ++ m)) false)) refl
+    ∙ rw (
+      zero-add (length m),
+      drop-replicate (length m) z false,
+      e,
+      append-assoc b m (replicate (4096 - length (b ++ m)) false),
+    )
+    refl
 
 -- bytes that bits were written over
 pub joined-is : (old new : List ℕ) (at : ℕ) (m : List Bool) → AllBytes new → length old ≡ 512 → at + length m ≤ 4096
     → bitsOf new ≡ over at m (bitsOf old) → new ≡ joinedTo old at m
 unfolding joinedTo
 joined-is old new at m hn l h e =
-    bytes-are 512 new (over at m (bitsOf old)) hn (length-over at m (bitsOf old) (omega (arith, length-bitsOf old)) ∙ omega (arith, length-bitsOf old)) e
+    bytes-are 512 new (over at m (bitsOf old)) hn
+    (length-over at m (bitsOf old) (omega (arith, length-bitsOf old)) ∙ omega (arith, length-bitsOf old)) e
 
 -- bits put in after those that a store holds are held too
 pub store-join : (b m : List Bool) → length b + length m ≤ 4096 → joinedTo (storeOf b) (length b) m ≡ storeOf (b ++ m)

@@ -1,10 +1,11 @@
 -- A store of 512 bytes that holds a run of bits, zero beyond them; and the bytes of a message that is handed over.
-use mathlib.Core.Bool.{Bool, true, false, _&&_}
+use mathlib.Core.Bool.{Bool, false, _&&_}
 use mathlib.Core.List.{List, [], _∷_, _++_}
 use Prim.Native.Nat.{ℕ, _+_, _-_, _/_}
 use lib.Dec.{eqb}
 use lib.ListN.{length, take, drop, replicate}
 use Rattle.bits.specs.Bits.{num, bitsOf, bytesN, over}
+use Rattle.store.specs.declared.Raw.{Raw}
 
 -- The store that holds these bits.
 unfoldable pub storeOf : List Bool → List ℕ
@@ -27,16 +28,13 @@ abbrev pub firstOver : ℕ → List ℕ → List ℕ → List ℕ
 firstOver n store old = take ((n + 7) / 8) store ++ drop ((n + 7) / 8) old
 
 -- A string of 128 bits as two numbers: its first 64 bits and the others.
-abbrev pub halves : List Bool → List ℕ
-halves b = num (take 64 b) ∷ num (drop 64 b) ∷ []
+abbrev pub halves : List Bool → Raw
+halves b = record { high = num (take 64 b); low = num (drop 64 b) }
 
 -- A block of 16 bytes with the two bits from bit `at` on zero, as two numbers.
-abbrev pub without : ℕ → List ℕ → List ℕ
+abbrev pub without : ℕ → List ℕ → Raw
 without at h = halves (over at (false ∷ false ∷ []) (bitsOf h))
 
--- The same numbers.
-abbrev pub same-numbers : List ℕ → List ℕ → Bool
-same-numbers [] [] = true
-same-numbers [] (y ∷ ys) = false
-same-numbers (x ∷ xs) [] = false
-same-numbers (x ∷ xs) (y ∷ ys) = eqb x y && same-numbers xs ys
+-- Whether two such blocks are the same.
+abbrev pub same-raw : Raw → Raw → Bool
+same-raw a b = eqb (a .high) (b .high) && eqb (a .low) (b .low)

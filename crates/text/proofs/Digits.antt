@@ -11,8 +11,10 @@ use Rattle.text.specs.Text.{digits, decimalOf, Wrote}
 use Rattle.text.proofs.Writing.{wrote-none, wrote-more}
 
 -- the digits do not hang on how many are allowed, once that is enough
-same-when : (t : Bool) (k j n : ℕ) → ltb n 10 ≡ t → n ≤ k → n ≤ j → (n / 10 < k → n / 10 < j → digits k (n / 10) ≡ digits j (n / 10))
-    → cond t ((48 + n) ∷ []) (digits k (n / 10) ++ ((48 + n % 10) ∷ [])) ≡ cond t ((48 + n) ∷ []) (digits j (n / 10) ++ ((48 + n % 10) ∷ []))
+same-when : (t : Bool) (k j n : ℕ) → ltb n 10 ≡ t → n ≤ k → n ≤ j
+    → (n / 10 < k → n / 10 < j → digits k (n / 10) ≡ digits j (n / 10))
+    → cond t ((48 + n) ∷ []) (digits k (n / 10) ++ ((48 + n % 10) ∷ []))
+    ≡ cond t ((48 + n) ∷ []) (digits j (n / 10) ++ ((48 + n % 10) ∷ []))
 same-when true k j n e a b f = refl
 same-when false k j n e a b f = let g = ltb-false n 10 e in rw (f (omega arith) (omega arith)) refl
 
@@ -20,20 +22,22 @@ digits-same : (k j n : ℕ) → n < k → n < j → digits k n ≡ digits j n
 unfolding digits
 digits-same zero j n h g = absurd (omega arith)
 digits-same (suc k) zero n h g = absurd (omega arith)
-digits-same (suc k) (suc j) n h g = same-when (ltb n 10) k j n refl (omega arith) (omega arith) (λ a b. digits-same k j (n / 10) a b)
+digits-same (suc k) (suc j) n h g =
+    same-when (ltb n 10) k j n refl (omega arith) (omega arith) (λ a b. digits-same k j (n / 10) a b)
 
 pub decimal-small : (n : ℕ) → n < 10 → decimalOf n ≡ (48 + n) ∷ []
 unfolding decimalOf digits
 decimal-small n h = rw (lt-ltb n 10 h) refl
 
-pub decimal-large : (n : ℕ) → 10 ≤ n → decimalOf n ≡ decimalOf (n / 10) ++ ((48 + n % 10) ∷ [])
+decimal-large : (n : ℕ) → 10 ≤ n → decimalOf n ≡ decimalOf (n / 10) ++ ((48 + n % 10) ∷ [])
 unfolding decimalOf digits
 decimal-large n h = rw (le-ltb n 10 h, digits-same n (suc (n / 10)) (n / 10) (omega arith) (omega arith)) refl
 
 pub decimal-length : (n : ℕ) → 10 ≤ n → length (decimalOf n) ≡ length (decimalOf (n / 10)) + 1
 decimal-length n h = rw (decimal-large n h, length-append (decimalOf (n / 10)) ((48 + n % 10) ∷ [])) refl
 
-few-when : (t : Bool) (k n : ℕ) → ltb n 10 ≡ t → n < 10 * 10 ^ suc k → (n / 10 < 10 ^ suc k → length (decimalOf (n / 10)) ≤ suc k) → length (decimalOf n) ≤ suc (suc k)
+few-when : (t : Bool) (k n : ℕ) → ltb n 10 ≡ t → n < 10 * 10 ^ suc k
+    → (n / 10 < 10 ^ suc k → length (decimalOf (n / 10)) ≤ suc k) → length (decimalOf n) ≤ suc (suc k)
 few-when true k n e h f = rw (decimal-small n (ltb-true n 10 e)) (omega arith)
 few-when false k n e h f = rw (decimal-length n (ltb-false n 10 e)) (let l = f (omega arith) in omega arith)
 
@@ -44,13 +48,17 @@ decimal-few (suc k) n h = few-when (ltb n 10) k n refl (omega arith) (λ l. deci
 
 -- ---- digits that were written
 
-pub wrote-small : (old : List ℕ) (at n : ℕ) → n < 10 → at + length (decimalOf n) ≤ length old → Wrote old at (decimalOf n) (set old at (48 + n)) (at + 1)
+pub wrote-small : (old : List ℕ) (at n : ℕ) → n < 10 → at + length (decimalOf n) ≤ length old
+    → Wrote old at (decimalOf n) (set old at (48 + n)) (at + 1)
 wrote-small old at n h l =
     let e = decimal-small n h in
     rw e (wrote-more old at [] (48 + n) (wrote-none old at) (let k = rw e at l in omega arith))
 
-pub wrote-large : (old : List ℕ) (at n : ℕ) {new : List ℕ} {next : ℕ} → 10 ≤ n → at + length (decimalOf n) ≤ length old → Wrote old at (decimalOf (n / 10)) new next → Wrote old at (decimalOf n) (set new next (48 + n % 10)) (next + 1)
-wrote-large old at n h l w = rw (decimal-large n h) (wrote-more old at (decimalOf (n / 10)) (48 + n % 10) w (omega (arith, w .after, decimal-length n h)))
+pub wrote-large : (old : List ℕ) (at n : ℕ) {new : List ℕ} {next : ℕ} → 10 ≤ n → at + length (decimalOf n) ≤ length old
+    → Wrote old at (decimalOf (n / 10)) new next → Wrote old at (decimalOf n) (set new next (48 + n % 10)) (next + 1)
+wrote-large old at n h l w =
+    rw (decimal-large n h)
+    (wrote-more old at (decimalOf (n / 10)) (48 + n % 10) w (omega (arith, w .after, decimal-length n h)))
 
 -- ---- a number is read back from its digits
 

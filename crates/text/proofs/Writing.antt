@@ -9,12 +9,17 @@ use lib.ListN.{length, take, drop, getD, set, length-append, length-take, length
 use lib.Seq.{drop-cons, set-at, take-at, drop-at, drop-drop, take-suc, take-length}
 use Rattle.text.specs.Text.{written, Wrote}
 
-pub length-written : (at : ℕ) (run old : List ℕ) → at + length run ≤ length old → length (written at run old) ≡ length old
+length-written : (at : ℕ) (run old : List ℕ) → at + length run ≤ length old → length (written at run old) ≡ length old
 unfolding written
 length-written at run old h =
-    rw (length-append (take at old) (run ++ drop (at + length run) old), length-append run (drop (at + length run) old), length-take at old, length-drop (at + length run) old) (omega arith)
+    rw (
+      length-append (take at old) (run ++ drop (at + length run) old),
+      length-append run (drop (at + length run) old),
+      length-take at old,
+      length-drop (at + length run) old,
+    ) (omega arith)
 
-pub written-none : (at : ℕ) (old : List ℕ) → written at [] old ≡ old
+written-none : (at : ℕ) (old : List ℕ) → written at [] old ≡ old
 unfolding written
 written-none at old = rw (add-zero at, take-append-drop at old) refl
 
@@ -23,7 +28,8 @@ length-start : (at : ℕ) (run old : List ℕ) → at ≤ length old → length 
 length-start at run old h = rw (length-append (take at old) run, length-take at old) (omega arith)
 
 -- one byte more
-pub written-more : (at : ℕ) (run old : List ℕ) (b : ℕ) → at + length run < length old → set (written at run old) (at + length run) b ≡ written at (run ++ (b ∷ [])) old
+written-more : (at : ℕ) (run old : List ℕ) (b : ℕ) → at + length run < length old
+    → set (written at run old) (at + length run) b ≡ written at (run ++ (b ∷ [])) old
 unfolding written
 written-more at run old b h =
     let n = at + length run in
@@ -38,7 +44,8 @@ written-more at run old b h =
     ) refl
 
 -- one run after the other
-pub written-both : (at : ℕ) (a b old : List ℕ) → at + length a ≤ length old → written (at + length a) b (written at a old) ≡ written at (a ++ b) old
+written-both : (at : ℕ) (a b old : List ℕ) → at + length a ≤ length old
+    → written (at + length a) b (written at a old) ≡ written at (a ++ b) old
 unfolding written
 written-both at a b old h =
     let p = take at old ++ a in
@@ -61,14 +68,16 @@ written-both at a b old h =
 pub wrote-none : (old : List ℕ) (at : ℕ) → Wrote old at [] old at
 wrote-none old at = record { bytes = sym (written-none at old); after = sym (add-zero at) }
 
-pub wrote-more : (old : List ℕ) (at : ℕ) (run : List ℕ) {new : List ℕ} {next : ℕ} (b : ℕ) → Wrote old at run new next → next < length old → Wrote old at (run ++ (b ∷ [])) (set new next b) (next + 1)
+pub wrote-more : (old : List ℕ) (at : ℕ) (run : List ℕ) {new : List ℕ} {next : ℕ} (b : ℕ) → Wrote old at run new next
+    → next < length old → Wrote old at (run ++ (b ∷ [])) (set new next b) (next + 1)
 wrote-more old at run b w h =
     record {
       bytes = rw (w .bytes, w .after) (written-more at run old b (omega (arith, w .after)));
       after = rw (w .after, length-append run (b ∷ [])) (omega arith);
     }
 
-pub wrote-both : (old : List ℕ) (at : ℕ) (a b : List ℕ) {mid new : List ℕ} {next after : ℕ} → Wrote old at a mid next → Wrote mid next b new after → next ≤ length old → Wrote old at (a ++ b) new after
+pub wrote-both : (old : List ℕ) (at : ℕ) (a b : List ℕ) {mid new : List ℕ} {next after : ℕ} → Wrote old at a mid next
+    → Wrote mid next b new after → next ≤ length old → Wrote old at (a ++ b) new after
 wrote-both old at a b u v h =
     record {
       bytes = v .bytes ∙ rw (u .bytes, u .after) (written-both at a b old (omega (arith, u .after)));
@@ -76,15 +85,22 @@ wrote-both old at a b u v h =
     }
 
 -- a run that was written leaves as many bytes
-pub wrote-length : (old : List ℕ) (at : ℕ) (run : List ℕ) {new : List ℕ} {next : ℕ} → Wrote old at run new next → at + length run ≤ length old → length new ≡ length old
+pub wrote-length : (old : List ℕ) (at : ℕ) (run : List ℕ) {new : List ℕ} {next : ℕ} → Wrote old at run new next
+    → at + length run ≤ length old → length new ≡ length old
 wrote-length old at run w h = rw (w .bytes) (length-written at run old h)
 
 -- one byte more of a list that is copied
-pub wrote-next : (old : List ℕ) (at : ℕ) (s : List ℕ) (i : ℕ) {new : List ℕ} → i < length s → at + i < length old → Wrote old at (take i s) new (at + i) → Wrote old at (take (i + 1) s) (set new (at + i) (getD s i 0)) (at + (i + 1))
+pub wrote-next : (old : List ℕ) (at : ℕ) (s : List ℕ) (i : ℕ) {new : List ℕ} → i < length s → at + i < length old
+    → Wrote old at (take i s) new (at + i)
+    → Wrote old at (take (i + 1) s) (set new (at + i) (getD s i 0)) (at + (i + 1))
 wrote-next old at s i h g w =
     let m = wrote-more old at (take i s) (getD s i 0) w g in
-    record { bytes = m .bytes ∙ rw (add-one i, take-suc s i 0 h) refl; after = rw (add-one i, take-suc s i 0 h) (omega (arith, m .after)) }
+    record {
+      bytes = m .bytes ∙ rw (add-one i, take-suc s i 0 h) refl;
+      after = rw (add-one i, take-suc s i 0 h) (omega (arith, m .after));
+    }
 
 -- and all of it
-pub wrote-all : (old : List ℕ) (at : ℕ) (s : List ℕ) (i : ℕ) {new : List ℕ} → i ≡ length s → Wrote old at (take i s) new (at + i) → Wrote old at s new (at + i)
+pub wrote-all : (old : List ℕ) (at : ℕ) (s : List ℕ) (i : ℕ) {new : List ℕ} → i ≡ length s
+    → Wrote old at (take i s) new (at + i) → Wrote old at s new (at + i)
 wrote-all old at s i e w = let t : take i s ≡ s = rw e (take-length s) in rw t at w

@@ -15,8 +15,8 @@ pub record Wrote (old : List ℕ) (at : ℕ) (run : List ℕ) (new : List ℕ) (
   pub bytes : new ≡ written at run old
   pub after : next ≡ at + length run
 
--- The decimal digits of n, the most significant first, as long as at most k are wanted: below 10 the digit itself, and from 10 on those of
--- n / 10 and then the last one.
+-- The decimal digits of n, the most significant first, as long as at most k are wanted: below 10 the digit itself,
+-- and from 10 on those of n / 10 and then the last one.
 unfoldable pub digits : ℕ → ℕ → List ℕ
 digits zero n = []
 digits (suc k) n = cond (ltb n 10) ((48 + n) ∷ []) (digits k (n / 10) ++ ((48 + n % 10) ∷ []))

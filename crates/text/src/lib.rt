@@ -1,4 +1,5 @@
-// Text in ASCII, written at a place of lent bytes: each function answers the place after what it wrote, and leaves every other byte.
+// Text in ASCII, written at a place of lent bytes: each function answers the place after what it wrote, and leaves
+// every other byte.
 ghost use Prim.Native.Nat.{_+_, _*_, _≤_, _<_};
 ghost use mathlib.Core.Path.{_≡_};
 ghost use lib.ListN.{length};
@@ -35,7 +36,8 @@ pub fn copy(out: &mut [u8], at: usize, s: &[u8]) -> usize
 // Numbers in decimal, a space before each.
 pub fn numbers(out: &mut [u8], at: usize, ns: &[u64]) -> usize
     requires { ⌜ at + 21 * length (now ns) ≤ length (now out) ⌝ }
-    ensures { λ r. ⌜ Wrote (now (out .entry)) at (spaced (now (ns .entry))) (now (out .exit)) r × (r ≤ at + 21 * length (now (ns .entry))) ⌝ }
+    ensures { λ r. ⌜ Wrote (now (out .entry)) at (spaced (now (ns .entry))) (now (out .exit)) r
+        × (r ≤ at + 21 * length (now (ns .entry))) ⌝ }
 {
     let mut next = at;
     let mut i = 0;
@@ -57,7 +59,8 @@ fn hex_digit(d: u8) -> u8
 // Two hexadecimal digits for each byte of `s`.
 pub fn hex(out: &mut [u8], at: usize, s: &[u8]) -> usize
     requires { ⌜ at + 2 * length (now s) ≤ length (now out) ⌝ }
-    ensures { λ r. ⌜ Wrote (now (out .entry)) at (hexOf (now (s .entry))) (now (out .exit)) r × (r ≡ at + 2 * length (now (s .entry))) ⌝ }
+    ensures { λ r. ⌜ Wrote (now (out .entry)) at (hexOf (now (s .entry))) (now (out .exit)) r
+        × (r ≡ at + 2 * length (now (s .entry))) ⌝ }
 {
     let mut next = at;
     let mut i = 0;

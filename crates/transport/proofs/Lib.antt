@@ -1,5 +1,6 @@
 pub mod ElementLaws
 pub mod RunLaws
+pub mod RuleLaws
 pub mod ReadLaws
 pub mod BuildLaws
 pub mod MessageLaws

@@ -12,7 +12,8 @@ use Rattle.bits.specs.Layout.{Part, pack, total, partsWith, AllFit, AllNarrow}
 use Rattle.bits.proofs.Bytes.{length-bitsOf}
 use Rattle.store.specs.Store.{handed}
 use Rattle.blocks.specs.Faults.{unless, firstOf}
-use Rattle.blocks.proofs.FaultLaws.{all-zero, holds, chain-none, chain-given}
+use Rattle.blocks.proofs.FaultLaws.{chain-none, chain-given}
+use Rattle.transport.proofs.RuleLaws.{kind-holds, flags-hold, fit-holds}
 use Rattle.transport.specs.Layouts.{ackOf, per, forwardWidth, Shape, shape, layout, at}
 use Rattle.transport.specs.Building.{shapeFor, dataAt, messageBits, lengthFor, valuesFor, partsFor, frameBits}
 use Rattle.transport.specs.Building.{checked, builtBits, bitsFor, storedHolds, kindRules, flagRules, mostFor}
@@ -124,9 +125,9 @@ module _ (ack flag n : ℕ) (m : Message) (user old : List ℕ) (k : Passed ack 
 
     pub puts : PutsSdu ws vs user (from + own) n flag old
     puts =
-        let s = all-zero (fitRules l most fit enough) (sym er ∙ z) in
-        let f : AllFit (partsWith ws vs) = fits-all (partsWith ws vs) (sym et ∙ holds fit 12 (s .1 .0)) in
-        let room = leb-true (from + own + n + 32 * flag) (8 * length old) (sym en ∙ holds enough 0 (s .1 .1 .0)) in
+        let s = fit-holds l most fit enough (sym er ∙ z) in
+        let f : AllFit (partsWith ws vs) = fits-all (partsWith ws vs) (sym et ∙ s .fits) in
+        let room = leb-true (from + own + n + 32 * flag) (8 * length old) (sym en ∙ s .room) in
         let e = first in
         record {
           paired = rw (ew, ev) refl;
@@ -213,22 +214,24 @@ module _ (carrier flag n : ℕ) (m : Message) (user old : List ℕ) {ack w kf : 
     module _ (zf : ff ≡ 0) where
       pub build-passed : Passed ack flag m n (length user)
       build-passed =
-          let s = all-zero kinds (sym kind-fault ∙ zk) in
-          let t = all-zero flags (sym flag-fault ∙ zf) in
-          let lowest = leb-true (ackOf carrier + 1) (m .kind)
-          (holds (leb (ackOf carrier + 1) (m .kind)) 20 (s .1 .1 .0)) in
+          let j = m .kind in
+          let o = storedHolds j (m .storage) (m .forward) in
+          let s =
+          kind-holds carrier (ackOf carrier + 1) j (per j 128 128 128 0) (m .protocol) o (sym kind-fault ∙ zk) in
+          let c = per j 2047 2047 0 0 in
+          let t = flags-hold flag (m .addressed) (m .storage) n c (leb n (8 * length user)) (sym flag-fault ∙ zf) in
+          let lowest : ackOf carrier + 1 ≤ m .kind = s .first in
           let p = per-le 2047 (m .kind) 2047 2047 0 0 (omega arith) (omega arith) (omega arith) (omega arith) in
-          let few = leb-true n (per (m .kind) 2047 2047 0 0)
-          (holds (leb n (per (m .kind) 2047 2047 0 0)) 12 (t .1 .1 .1 .0)) in
+          let few : n ≤ per (m .kind) 2047 2047 0 0 = t .few in
           record {
             carried = ack-le carrier ea;
             least = omega arith;
-            most = leb-true (m .kind) 4 (holds (leb (m .kind) 4) 20 (s .1 .1 .1 .0));
-            flagged = leb-true flag 1 (holds (leb flag 1) 12 (t .0));
-            addressed = leb-true (m .addressed) 1 (holds (leb (m .addressed) 1) 12 (t .1 .0));
-            storage = leb-true (m .storage) 1 (holds (leb (m .storage) 1) 12 (t .1 .1 .0));
+            most = s .last;
+            flagged = t .flagged;
+            addressed = t .addressed;
+            storage = t .storage;
             short = omega arith;
-            lent = leb-true n (8 * length user) (holds (leb n (8 * length user)) 12 (t .1 .1 .1 .1 .0));
+            lent = leb-true n (8 * length user) (t .there);
           }
 
       past-flags : firstOf (kinds ++ (flags ++ rest)) ≡ firstOf rest

@@ -1,7 +1,7 @@
 -- What a build's rules show of its numbers, where none is broken; and nothing else is refused. Assumes nothing.
 use mathlib.Core.Path.{_≡_, refl, sym, ap, _∙_}
 use mathlib.Core.Bool.{Bool, true, false, cond}
-use mathlib.Core.List.{List}
+use mathlib.Core.List.{List, _++_}
 use Prim.Native.Nat.{ℕ, zero, suc, _+_, _-_, _*_, _^_, _≤_, _<_}
 use native.Mathlib.Omega.{arith}
 use lib.Dec.{eqb, leb}
@@ -10,15 +10,18 @@ use lib.Pow.{pow-pos}
 use borrow.Author.Tests.{le-leb, eq-eqb, leb-true, eqb-true}
 use Rattle.bits.specs.Bits.{bitsOf}
 use Rattle.bits.specs.Layout.{AllFit}
-use Rattle.blocks.proofs.FaultLaws.{all-zero, holds}
+use Rattle.bits.proofs.Packing.{fit-at}
+use Rattle.blocks.proofs.FaultLaws.{chain-split}
 use Rattle.store.specs.Store.{handed}
 use Rattle.transport.specs.Layouts.{ackOf, per, Shape, at, sdtiOf, typeOf, beginningOf}
 use Rattle.transport.specs.Reading.{direct}
 use Rattle.transport.specs.Building.{shapeFor, lengthFor, partsFor, builtBits, bitsFor, storedHolds}
-use Rattle.transport.specs.Building.{mostFor, fits, buildChecks, buildFault, builtAs, sduOf, outOf}
+use Rattle.transport.specs.Building.{mostFor, fits, kindRules, flagRules, fitRules, buildFault, builtAs, sduOf}
+use Rattle.transport.specs.Building.{outOf}
 use Rattle.transport.specs.Well.{Buildable}
 use Rattle.transport.specs.declared.Message.{Message}
 use Rattle.transport.specs.declared.Sdu.{Sdu}
+use Rattle.transport.proofs.RuleLaws.{kind-holds, flags-hold, fit-holds}
 use Rattle.transport.proofs.BuildLaws.{fits-all, all-fits}
 use Rattle.transport.proofs.WellLaws.{by-kind, ack-small, holds-when}
 
@@ -112,49 +115,52 @@ unfolding buildFault
 buildable carrier flag m n bytes lent e =
     let ack = ackOf carrier in
     let k = m .kind in
-    let z = all-zero (buildChecks carrier flag m n bytes lent) e in
-    let y = z .1 .1 .1 .1 .1 .1 in
-    let x = y .1 .1 .1 .1 .1 in
-    let f = fits-all (partsFor ack m n) (holds (fits (partsFor ack m n)) 12 (x .1 .0)) in
-    let f₇ = f .1 .1 .1 .1 .1 .1 .1 in
-    let f₁₃ = f₇ .1 .1 .1 .1 .1 .1 in
-    let least = leb-true (ack + 1) k (holds (leb (ack + 1) k) 20 (z .1 .1 .0)) in
-    let most = leb-true k 4 (holds (leb k 4) 20 (z .1 .1 .1 .0)) in
-    let first : 1 ≤ k = omega arith in
-    let p = per k 128 128 128 0 in
-    let protocol = leb-true p (m .protocol) (holds (leb p (m .protocol)) 20 (z .1 .1 .1 .1 .0)) in
     let w = storedHolds k (m .storage) (m .forward) in
-    let stored : w ≡ true = holds w 20 (z .1 .1 .1 .1 .1 .0) in
-    let v = per k (m .storage) (m .storage) 0 0 in
-    let c = per k 2047 2047 0 0 in
-    let few = leb-true n c (holds (leb n c) 12 (y .1 .1 .1 .0)) in
     let l = lengthFor (shapeFor ack m) n in
-    let all = bitsFor carrier flag m n in
+    let parts = partsFor ack m n in
+    let enough = leb (bitsFor carrier flag m n) (8 * lent) in
+    let p = per k 128 128 128 0 in
+    let c = per k 2047 2047 0 0 in
+    let there = leb n (8 * bytes) in
+    let kinds = kindRules carrier (ack + 1) k p (m .protocol) w in
+    let flags = flagRules flag (m .addressed) (m .storage) n c there in
+    let rest = fitRules l (mostFor ack flag) (fits parts) enough in
+    let (e₁, e) = chain-split kinds (flags ++ rest) e in
+    let (e₂, e₃) = chain-split flags rest e in
+    let x = kind-holds carrier (ack + 1) k p (m .protocol) w e₁ in
+    let y = flags-hold flag (m .addressed) (m .storage) n c there e₂ in
+    let z = fit-holds l (mostFor ack flag) (fits parts) enough e₃ in
+    let f = fits-all parts (z .fits) in
+    let least = x .first in
+    let most = x .last in
+    let first : 1 ≤ k = omega arith in
+    let v = per k (m .storage) (m .storage) 0 0 in
+    let few = y .few in
     record {
-      lowest = leb-true 22 carrier (holds (leb 22 carrier) 20 (z .0));
-      highest = leb-true carrier 24 (holds (leb carrier 24) 20 (z .1 .0));
+      lowest = x .from;
+      highest = x .up-to;
       least = least;
       most = most;
-      protocol = λ i. three-le k first most 128 (m .protocol) protocol i;
-      stored = λ i j. rw (eq-eqb v 1 (two-is k first most (m .storage) i ∙ j)) at stored;
-      flagged = leb-true flag 1 (holds (leb flag 1) 12 (y .0));
-      addressed = flag-le (1 - ack) (m .addressed) (omega arith) (f .1 .0);
-      storage = flag-le (per k 1 1 0 0) (m .storage) (storage-small k first most) (f₁₃ .0);
-      mni = f .1 .1 .1 .0;
-      ssi = f .1 .1 .1 .1 .0;
-      octet = f₇ .0;
-      request = f₇ .1 .1 .0;
-      short = f₇ .1 .1 .1 .0;
-      required = f₇ .1 .1 .1 .1 .0;
-      status = f₁₃ .1 .1 .0;
-      reference = f₁₃ .1 .1 .1 .0;
-      validity = f₁₃ .1 .1 .1 .1 .0;
-      forward = f₁₃ .1 .1 .1 .1 .1 .0;
-      address = f₁₃ .1 .1 .1 .1 .1 .1 .0;
+      protocol = λ i. three-le k first most 128 (m .protocol) (x .protocol) i;
+      stored = λ i j. rw (eq-eqb v 1 (two-is k first most (m .storage) i ∙ j)) at (x .direct);
+      flagged = y .flagged;
+      addressed = flag-le (1 - ack) (m .addressed) (omega arith) (fit-at 1 parts f);
+      storage = flag-le (per k 1 1 0 0) (m .storage) (storage-small k first most) (fit-at 13 parts f);
+      mni = fit-at 3 parts f;
+      ssi = fit-at 4 parts f;
+      octet = fit-at 7 parts f;
+      request = fit-at 9 parts f;
+      short = fit-at 10 parts f;
+      required = fit-at 11 parts f;
+      status = fit-at 15 parts f;
+      reference = fit-at 16 parts f;
+      validity = fit-at 17 parts f;
+      forward = fit-at 18 parts f;
+      address = fit-at 19 parts f;
       none = λ i. let u = none-in k first most 2047 i in omega arith;
-      user = leb-true n (8 * bytes) (holds (leb n (8 * bytes)) 12 (y .1 .1 .1 .1 .0));
-      long = leb-true l (mostFor ack flag) (holds (leb l (mostFor ack flag)) 12 (x .0));
-      room = leb-true all (8 * lent) (holds (leb all (8 * lent)) 0 (x .1 .1 .0));
+      user = leb-true n (8 * bytes) (y .there);
+      long = z .long;
+      room = leb-true (bitsFor carrier flag m n) (8 * lent) (z .room);
     }
 
 -- ---- and nothing else is refused

@@ -11,7 +11,8 @@ use borrow.Author.Tests.{lt-ltb, le-ltb, le-leb, lt-leb, eq-eqb, leb-true, ltb-t
 use Rattle.bits.specs.Bits.{bitsOf, num, field}
 use Rattle.bits.proofs.Numbers.{take-of-drop}
 use Rattle.blocks.specs.Faults.{unless, firstOf}
-use Rattle.blocks.proofs.FaultLaws.{all-zero, holds, chain-none, chain-given}
+use Rattle.blocks.proofs.FaultLaws.{chain-none, chain-given}
+use Rattle.transport.proofs.RuleLaws.{end-holds}
 use Rattle.fcs.specs.Annex.{fcsOf}
 use Rattle.transport.specs.Layouts.{ackOf, per, Shape, shape, at}
 use Rattle.transport.specs.Elements.{elementIn, addressedIn, kindIn, storageIn, forwardIn, shapeOf, endIn}
@@ -27,9 +28,6 @@ use Rattle.transport.proofs.RunLaws.{sdtiAt, exact, flagged, front-next
 use Rattle.transport.proofs.RunLaws.{Agreed, fixed-is, storage-le, StoredAs, stored-is}
 
 -- ---- the FCS
-
-pub fcs-not-told : (flag end : ℕ) (b : List Bool) → eqb flag 1 ≡ false → true ≡ fcsHolds flag end b
-fcs-not-told flag end b e = rw e refl
 
 module _ (end n : ℕ) (s : List ℕ) (h : n ≤ 8 * length s) where
   abbrev b : List Bool
@@ -102,18 +100,9 @@ holds-short : (storage forward typed end n : ℕ) → n < typed → forwardHolds
 holds-short storage forward typed end n h =
     rw (lt-ltb n typed h) (holds-when (eqb storage 1) (ltb end typed) (direct forward))
 
--- what the rules show where none is broken
-end-shows : (forward check : Bool) (fixed end flag n : ℕ) → firstOf (endRules forward check fixed end flag n) ≡ 0
-    → (fixed ≤ end) × (end + 32 * flag ≤ n)
-end-shows forward check fixed end flag n e =
-    let z = all-zero (endRules forward check fixed end flag n) e in (
-      leb-true fixed end (holds (leb fixed end) 21 (z .1 .1 .0)),
-      leb-true (end + 32 * flag) n (holds (leb (end + 32 * flag) n) 21 (z .1 .1 .1 .0)),
-    )
-
 pub end-fits : (forward check : Bool) (fixed end flag n : ℕ) {fault : ℕ}
     → fault ≡ firstOf (endRules forward check fixed end flag n) → fault ≡ 0 → fixed ≤ end
-end-fits forward check fixed end flag n e z = end-shows forward check fixed end flag n (sym e ∙ z) .0
+end-fits forward check fixed end flag n e z = end-holds forward check fixed end flag n (sym e ∙ z) .fixed
 
 -- a refusal, and a message that none of the rules refuses
 pub answered-refused : (f : ℕ) (r : Transport) → (f ≡ 0 → ⊥) → refusedTransport f ≡ answered f r
@@ -221,8 +210,8 @@ module _ (carrier flag : ℕ) (b : List Bool) where
         let last = chain-zero (frontRules carrier (f .acknowledged) ack (f .kind) a ++ (unless (leb 1 k) 21 ∷ []))
         (endRules (forwardHolds t v (at 19 q) e (length b)) (fcsHolds flag e b) (at 20 q) e flag (length b)) z in
         let n = length b in
-        let ends = end-shows (forwardHolds t v (at 19 q) e n) (fcsHolds flag e b) (at 20 q) e flag n last in
-        let l : at 20 q ≤ length b = omega (arith, ends .0, ends .1) in
+        let ends = end-holds (forwardHolds t v (at 19 q) e n) (fcsHolds flag e b) (at 20 q) e flag n last in
+        let l : at 20 q ≤ length b = omega (arith, ends .fixed, ends .there) in
         let l₁₉ : at 19 q ≤ length b = omega arith in
         let r = g .rest (omega arith) in
         let o = h .next l₁₉ in

@@ -14,7 +14,7 @@ use Rattle.bits.specs.Bits.{bitsOf, num}
 use Rattle.bits.specs.Layout.{Part, part, pack, total, partsWith, partsIn, AllFit}
 use Rattle.bits.proofs.Numbers.{num-take-lt, fits-in}
 use Rattle.bits.proofs.Bytes.{length-bitsOf}
-use Rattle.bits.proofs.Packing.{length-pack, read-pack, pack-read, fit-read}
+use Rattle.bits.proofs.Packing.{length-pack, read-pack, pack-read, fit-read, fit-at}
 use Rattle.store.specs.Store.{handed}
 use Rattle.fcs.specs.Annex.{fcsOf}
 use Rattle.transport.specs.Layouts.{ackOf, per, Shape, shape, layout, at}
@@ -248,11 +248,10 @@ module _ {carrier flag : ℕ} {b : List Bool} (w : ReadsWell carrier flag b) (f 
   buildable-again hu ho =
       let k = p .kind in
       let a = w .carried in
+      let read = partsIn 0 (layout p) b in
       let g = fit-read 0 (layout p) b in
-      let g₇ = g .1 .1 .1 .1 .1 .1 .1 in
-      let g₁₃ = g₇ .1 .1 .1 .1 .1 .1 in
-      let d : p .addressed < 2 ^ (1 - p .ack) = rw (w .addressed) at (g .1 .0) in
-      let s : p .storage < 2 ^ per k 1 1 0 0 = rw (w .storage) at (g₁₃ .0) in
+      let d : p .addressed < 2 ^ (1 - p .ack) = rw (w .addressed) at (fit-at 1 read g) in
+      let s : p .storage < 2 ^ per k 1 1 0 0 = rw (w .storage) at (fit-at 13 read g) in
       record {
         lowest = w .lowest;
         highest = w .highest;
@@ -263,17 +262,17 @@ module _ {carrier flag : ℕ} {b : List Bool} (w : ReadsWell carrier flag b) (f 
         flagged = f;
         addressed = rw (← a) (flag-le (1 - p .ack) (p .addressed) (omega arith) d);
         storage = flag-le (per k 1 1 0 0) (p .storage) (storage-small k (kind-least w) (w .most)) s;
-        mni = g .1 .1 .1 .0;
-        ssi = g .1 .1 .1 .1 .0;
-        octet = g₇ .0;
-        request = g₇ .1 .1 .0;
-        short = g₇ .1 .1 .1 .0;
-        required = g₇ .1 .1 .1 .1 .0;
-        status = g₁₃ .1 .1 .0;
-        reference = g₁₃ .1 .1 .1 .0;
-        validity = g₁₃ .1 .1 .1 .1 .0;
-        forward = rw (w .forward) at (g₁₃ .1 .1 .1 .1 .1 .0);
-        address = g₁₃ .1 .1 .1 .1 .1 .1 .0;
+        mni = fit-at 3 read g;
+        ssi = fit-at 4 read g;
+        octet = fit-at 7 read g;
+        request = fit-at 9 read g;
+        short = fit-at 10 read g;
+        required = fit-at 11 read g;
+        status = fit-at 15 read g;
+        reference = fit-at 16 read g;
+        validity = fit-at 17 read g;
+        forward = rw (w .forward) at (fit-at 18 read g);
+        address = fit-at 19 read g;
         none = none-in k (kind-least w) (w .most) (end - at 20 p);
         user = hu;
         long = rw (← a) (rw length-again short-enough);
@@ -397,14 +396,6 @@ module _ (carrier elements n : ℕ) (sdu : List ℕ) (good : readOf carrier elem
   pub length-read : length B ≡ n
   length-read = let h = lent in rw (length-take n (bitsOf sdu)) (omega (arith, length-bitsOf sdu))
 
-  -- each element of the answer stands at its place
-  pub read-stands : R ≡ transportAt Q B
-  read-stands = read-is ∙ ap (λ (q : Shape). transportAt q B) (sym (form-is well))
-
-  -- the message tells the widths
-  pub shape-read : shapeFor (ackOf carrier) (R .message) ≡ Q
-  shape-read = ap (λ (r : Transport). shapeFor (ackOf carrier) (r .message)) read-stands
-
   -- the answer accounts for every bit
   pub accounts : Accounts flag Q B R
   accounts =
@@ -418,10 +409,6 @@ module _ (carrier elements n : ℕ) (sdu : List ℕ) (good : readOf carrier elem
 
     small : flag ≤ 1
     small = omega arith
-
-    pub rebuilt-bits : builtBits carrier flag (R .message) (userIn R B) ≡ B
-    rebuilt-bits =
-        ap (λ (r : Transport). builtBits carrier flag (r .message) (userIn r B)) read-is ∙ built-again well small exact
 
     pub rebuilt : (user out : List ℕ) → R .bits ≤ 8 * length user → take (R .bits) (bitsOf user) ≡ userIn R B
         → n ≤ 8 * length out

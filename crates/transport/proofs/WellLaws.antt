@@ -10,8 +10,8 @@ use borrow.Author.Tests.{le-ltb, le-leb, eq-eqb, leb-true, ltb-false, eqb-true}
 use Rattle.bits.specs.Bits.{num, field}
 use Rattle.bits.specs.Layout.{placeIn}
 use Rattle.bits.proofs.Numbers.{num-inj}
-use Rattle.blocks.specs.Faults.{firstOf}
-use Rattle.blocks.proofs.FaultLaws.{all-zero, holds}
+use Rattle.blocks.specs.Faults.{unless, firstOf}
+use Rattle.blocks.proofs.FaultLaws.{le-holds, rule-split}
 use Rattle.fcs.specs.Annex.{fcsOf}
 use Rattle.fcs.proofs.Annex.{length-fcs}
 use Rattle.transport.specs.Layouts.{ackOf, per, Shape, shape, layout, at, sdtiOf, typeOf, beginningOf, endOf}
@@ -21,6 +21,7 @@ use Rattle.transport.specs.Reading.{direct, forwardHolds, fcsHolds, rule
 use Rattle.transport.specs.Reading.{transportOf, answered, readBits, readOf}
 use Rattle.transport.specs.Well.{stands, endAt, ReadsWell, transportAt}
 use Rattle.transport.specs.declared.Transport.{Transport}
+use Rattle.transport.proofs.RuleLaws.{sdu-holds}
 use Rattle.transport.proofs.ReadLaws.{ack-le, lent-read}
 
 -- what holds of each of the four kinds
@@ -201,31 +202,25 @@ module _ (carrier flag : ℕ) (b : List Bool) where
 
   pub well-read : firstOf (rulesOf carrier flag Q b) ≡ 0 → ReadsWell carrier flag b
   well-read e =
-      let z = all-zero (rulesOf carrier flag Q b) e in
-      let y = z .1 .1 .1 .1 .1 in
-      let v₀ = elementIn 0 Q b in
-      let v₂ = elementIn 2 Q b in
+      let z = sdu-holds _ _ _ _ _ _ _ _ _ _ _ _ e in
       let end = endIn Q b in
-      let all = end + 32 * flag in
-      let direct-holds = forwardHolds (Q .storage) (Q .forward) (at 19 Q) end (length b) in
-      let fixed = leb-true (at 20 Q) end (holds (leb (at 20 Q) end) 21 (y .1 .1 .0)) in
-      let there = leb-true all (length b) (holds (leb all (length b)) 21 (y .1 .1 .1 .0)) in
+      let fixed : at 20 Q ≤ end = z .ended .fixed in
+      let there : end + 32 * flag ≤ length b = z .ended .there in
       let h : at 20 Q ≤ length b = omega arith in
       let same : (k : ℕ) → stands k Q b ≡ elementIn k Q b = λ k. sym (element-stands Q b h k) in
-      let kind = leb-true 1 (Q .kind) (holds (leb 1 (Q .kind)) 20 (z .1 .1 .1 .1 .0)) in
-      let t = kind-tells (ackOf carrier) (Q .storage) (Q .forward) b (ack-small carrier) kind in
+      let t = kind-tells (ackOf carrier) (Q .storage) (Q .forward) b (ack-small carrier) (z .one) in
       let typed : at 19 Q ≤ end = omega (arith, element-end Q 19) in
       let ends = end-stands Q b h in
       record {
-        lowest = leb-true 22 carrier (holds (leb 22 carrier) 20 (z .0));
-        highest = leb-true carrier 24 (holds (leb carrier 24) 20 (z .1 .0));
+        lowest = z .from;
+        highest = z .up-to;
         form = Q;
         carried = refl;
         addressed = same 1 ∙ addressed-in;
         storage = same 13 ∙ storage-in;
         forward = same 18 ∙ forward-in;
-        acknowledged = same 0 ∙ eqb-true v₀ (Q .ack) (holds (eqb v₀ (Q .ack)) 20 (z .1 .1 .0));
-        address = same 2 ∙ eqb-true v₂ (Q .addressed) (holds (eqb v₂ (Q .addressed)) 20 (z .1 .1 .1 .0));
+        acknowledged = same 0 ∙ z .acknowledged;
+        address = same 2 ∙ z .address;
         least = t .least;
         most = t .most;
         sdti = same 5 ∙ t .sdti;
@@ -233,11 +228,10 @@ module _ (carrier flag : ℕ) (b : List Bool) where
         type = same 8 ∙ t .type;
         beginning = same 14 ∙ t .beginning;
         stored =
-            forward-told (Q .storage) (Q .forward) (at 19 Q) end (length b) typed (omega arith)
-            (holds direct-holds 20 (y .0));
+            forward-told (Q .storage) (Q .forward) (at 19 Q) end (length b) typed (omega arith) (z .ended .direct);
         fixed = rw (← ends) fixed;
         there = rw (← ends) there;
-        check = λ f. rw (← ends) (fcs-told end flag b (omega arith) f (holds (fcsHolds flag end b) 20 (y .1 .0)));
+        check = λ f. rw (← ends) (fcs-told end flag b (omega arith) f (z .ended .checked));
       }
 
 -- ---- and nothing else is refused
@@ -431,7 +425,9 @@ module _ (carrier elements n : ℕ) (sdu : List ℕ) where
     none = sym (answered-fault (firstOf checks) (transportOf (shapeOf (ackOf carrier) all) all) refl) ∙ good
 
     pub read-lent : n ≤ 8 * length sdu
-    read-lent = leb-true n (8 * length sdu) (holds (leb n (8 * length sdu)) 12 (all-zero checks none .0))
+    read-lent =
+        let rest = rulesOf carrier (flagOf elements) (shapeOf (ackOf carrier) all) all in
+        le-holds n (8 * length sdu) 12 (rule-split (unless (leb n (8 * length sdu)) 13) rest none .0)
 
     pub reads-well : ReadsWell carrier (flagOf elements) all
     reads-well = well-read carrier (flagOf elements) all (rw (le-leb n (8 * length sdu) read-lent) at none)

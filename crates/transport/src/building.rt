@@ -17,6 +17,7 @@ use crate::elements::forward_width;
 use crate::elements::per;
 use crate::elements::width;
 use crate::reading::direct_type;
+use blocks::fault::Fault;
 
 // Whether a message's forward address type is one of direct mode's, where its storage is 1.
 pub(crate) fn stored_holds(kind: u8, storage: u8, forward: u8) -> bool
@@ -40,21 +41,21 @@ pub(crate) fn kind_rules(
     ensures { λ r. ⌜ r ≡ firstOf (kindRules carrier lowest kind least protocol stored) ⌝ }
 {
     if carrier < 22 {
-        return 21;
+        return Fault::NOT_SDS_TL;
     }
     if 24 < carrier {
-        return 21;
+        return Fault::NOT_SDS_TL;
     }
     if (kind as usize) < lowest {
-        return 21;
+        return Fault::NOT_SDS_TL;
     }
     if 4 < kind {
-        return 21;
+        return Fault::NOT_SDS_TL;
     }
     if protocol < least {
-        return 21;
+        return Fault::NOT_SDS_TL;
     }
-    if stored { 0 } else { 21 }
+    if stored { 0 } else { Fault::NOT_SDS_TL }
 }
 
 // 13 where a flag is above 1, user data are too many or not lent, else 0.
@@ -69,22 +70,22 @@ pub(crate) fn flag_rules(
     ensures { λ r. ⌜ r ≡ firstOf (flagRules flag addressed storage n most lent) ⌝ }
 {
     if 1 < flag {
-        return 13;
+        return Fault::RANGE;
     }
     if 1 < addressed {
-        return 13;
+        return Fault::RANGE;
     }
     if 1 < storage {
-        return 13;
+        return Fault::RANGE;
     }
     if most < n {
-        return 13;
+        return Fault::RANGE;
     }
-    if lent { 0 } else { 13 }
+    if lent { 0 } else { Fault::RANGE }
 }
 
 // How many bits user defined data 4 has at most.
-pub(crate) fn most_for(ack: usize, flag: u8) -> usize
+fn most_for(ack: usize, flag: u8) -> usize
     requires { ⌜ flag ≤ 1 ⌝ }
     ensures { λ r. ⌜ r ≡ mostFor ack flag ⌝ }
 {
@@ -96,20 +97,20 @@ pub(crate) fn most_for(ack: usize, flag: u8) -> usize
 
 // 13 where user defined data 4 has too many bits or an element's number is too large, 1 where the output is too short,
 // else 0.
-pub(crate) fn fit_rules(length: usize, most: usize, fit: bool, enough: bool) -> u8
+fn fit_rules(length: usize, most: usize, fit: bool, enough: bool) -> u8
     ensures { λ r. ⌜ r ≡ firstOf (fitRules length most fit enough) ⌝ }
 {
     if most < length {
-        return 13;
+        return Fault::RANGE;
     }
     if !fit {
-        return 13;
+        return Fault::RANGE;
     }
-    if enough { 0 } else { 1 }
+    if enough { 0 } else { Fault::LENGTH }
 }
 
 // The bits of a message's elements, from the protocol identifier or the status on.
-pub(crate) fn message_bits(kind: u8, storage: u8, forward: u8) -> usize
+fn message_bits(kind: u8, storage: u8, forward: u8) -> usize
     requires { ⌜ storage ≤ 1 ⌝ }
     ensures { λ r. ⌜ (r ≡ messageBits kind storage forward) × (r ≤ 88) ⌝ }
 {
@@ -125,7 +126,7 @@ fn data_at(ack: usize, addressed: u8, kind: u8) -> usize
 }
 
 // The elements' widths, in order.
-pub(crate) fn widths_of(ack: usize, addressed: u8, kind: u8, storage: u8, forward: u8) -> [u8; 20]
+fn widths_of(ack: usize, addressed: u8, kind: u8, storage: u8, forward: u8) -> [u8; 20]
     requires { ⌜ (ack ≤ 1) × (addressed ≤ 1) × (storage ≤ 1) ⌝ }
     ensures { λ r. ⌜ r ≡ layout (shape ack addressed kind storage forward) ⌝ }
 {
@@ -154,7 +155,7 @@ pub(crate) fn widths_of(ack: usize, addressed: u8, kind: u8, storage: u8, forwar
 }
 
 // The elements' values, in order.
-pub(crate) fn values_of(ack: usize, m: Message, length: usize) -> [u64; 20]
+fn values_of(ack: usize, m: Message, length: usize) -> [u64; 20]
     ensures { λ r. ⌜ r ≡ valuesFor ack m length ⌝ }
 {
     let kind = m.kind;
@@ -189,7 +190,7 @@ fn index(x: u8) -> usize
 }
 
 // Whether each value fits its width of bits.
-pub(crate) fn all_fit(widths: &[u8], values: &[u64]) -> bool
+fn all_fit(widths: &[u8], values: &[u64]) -> bool
     requires { ⌜ (length (now widths) ≡ length (now values)) × AllNarrow (now widths) ⌝ }
     ensures { λ r. ⌜ r ≡ fits (partsWith (now (widths .entry)) (now (values .entry))) ⌝ }
 {

@@ -1,10 +1,11 @@
 // The elements of a DM-SDU: how wide each is, and what stands in the first n of the lent bits.
 ghost use mathlib.Core.Path.{_≡_};
-ghost use Prim.Native.Nat.{_+_, _*_, _≤_, min};
+ghost use Prim.Native.Nat.{_+_, _*_, _≤_};
 ghost use lib.ListN.{length, take};
 ghost use Rattle.bits.specs.Bits.{bitsOf};
 ghost use Rattle.transport.specs.Layouts.{ackOf, per, forwardWidth};
 ghost use Rattle.transport.specs.Runs.{cut, runIn, frontOf, fixedAt, storedAt};
+use bits::least;
 
 // 1 for DM-SDS ACK.
 pub(crate) fn ack_of(carrier: u8) -> usize
@@ -52,12 +53,6 @@ pub(crate) fn forward_width(forward: u8) -> usize
     if forward == 2 { 48 } else { 0 }
 }
 
-fn least(a: usize, b: usize) -> usize
-    ensures { λ r. ⌜ r ≡ min a b ⌝ }
-{
-    if a < b { a } else { b }
-}
-
 // The `w` bits from bit `at` on as one number; those that are not among the first `n` are 0.
 pub(crate) fn run(s: &[u8], n: usize, at: usize, w: usize) -> u64
     requires { ⌜ (n ≤ 8 * length (now s)) × (at ≤ 256) × (w ≤ 56) ⌝ }
@@ -71,7 +66,7 @@ pub(crate) fn run(s: &[u8], n: usize, at: usize, w: usize) -> u64
 }
 
 // The `w` bits of a run that `after` bits follow.
-pub(crate) fn part(x: u64, after: usize, w: usize) -> u64
+fn part(x: u64, after: usize, w: usize) -> u64
     requires { ⌜ (after ≤ 63) × (w ≤ 56) ⌝ }
     ensures { λ r. ⌜ r ≡ cut after w x ⌝ }
 {
@@ -95,7 +90,7 @@ fn part32(x: u64, after: usize, w: usize) -> u32
 }
 
 // What stands before the short data type identifier, which begins at `next`.
-pub struct Front {
+pub(crate) struct Front {
     pub acknowledged: u8,
     pub addressed: u8,
     pub kind: u8,
@@ -140,7 +135,7 @@ pub(crate) fn front_of(x: u64, ack: usize) -> Front
 
 // The elements that a message of this kind always has; `from` is where user defined data 4 or the status begins, `next`
 // the bit after the message reference.
-pub struct Fixed {
+pub(crate) struct Fixed {
     pub length: usize,
     pub from: usize,
     pub protocol: u8,
@@ -235,7 +230,7 @@ pub(crate) fn fixed_at(at: usize, kind: u8, x: u64) -> Fixed
 }
 
 // The elements that hang on storage, from bit `at` on; `address` is preceded by its type, which ends at `typed`.
-pub struct Stored {
+pub(crate) struct Stored {
     pub validity: u8,
     pub forward: u8,
     pub address: u64,

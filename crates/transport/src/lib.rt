@@ -8,6 +8,7 @@ ghost use mathlib.Core.Path.{_≡_};
 ghost use lib.ListN.{length};
 ghost use Rattle.transport.specs.Building.{sduOf, outOf};
 ghost use Rattle.transport.specs.Reading.{refusedTransport, readOf};
+use blocks::fault::Fault;
 use blocks::header::Fields;
 
 // An SDS-TL message's elements; one that the message does not have is 0. `kind` is 1 SDS-TRANSFER, 2 SDS-REPORT, 3
@@ -82,7 +83,7 @@ pub fn read(fields: Fields, n: usize, sdu: &[u8]) -> Transport
     ensures { λ r. ⌜ r ≡ readOf (fields .message) (fields .elements) n (now (sdu .entry)) ⌝ }
 {
     if !bits::bits_lent(n, sdu.len()) {
-        return refused(13);
+        return refused(Fault::RANGE);
     }
     crate::reading::read_bits(fields.message, (fields.elements % 2) as usize, n, sdu)
 }

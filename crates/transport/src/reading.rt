@@ -18,6 +18,7 @@ use crate::elements::per;
 use crate::elements::run;
 use crate::elements::stored_at;
 use crate::refused;
+use blocks::fault::Fault;
 
 // The kind of message that user defined data 4 tells, 0 where it tells none.
 fn kind_in_data(n: usize, end: usize, length: usize, protocol: u8, message: u8, ack: usize) -> u8
@@ -114,15 +115,19 @@ fn front_rules(carrier: u8, acknowledged: u8, ack: usize, address: u8, addressed
     ensures { λ r. ⌜ r ≡ firstOf (frontRules carrier acknowledged ack address addressed) ⌝ }
 {
     if carrier < 22 {
-        return 21;
+        return Fault::NOT_SDS_TL;
     }
     if 24 < carrier {
-        return 21;
+        return Fault::NOT_SDS_TL;
     }
     if (acknowledged as usize) != ack {
-        return 21;
+        return Fault::NOT_SDS_TL;
     }
-    if address != addressed { 21 } else { 0 }
+    if address != addressed {
+        Fault::NOT_SDS_TL
+    } else {
+        0
+    }
 }
 
 // The same of what stands after the kind.
@@ -131,16 +136,16 @@ fn end_rules(forward: bool, check: bool, fixed: usize, end: usize, flag: usize, 
     ensures { λ r. ⌜ r ≡ firstOf (endRules forward check fixed end flag n) ⌝ }
 {
     if !forward {
-        return 21;
+        return Fault::NOT_SDS_TL;
     }
     if !check {
-        return 21;
+        return Fault::NOT_SDS_TL;
     }
     if end < fixed {
-        return 22;
+        return Fault::TOO_SHORT;
     }
     if n < end + 32 * flag {
-        return 22;
+        return Fault::TOO_SHORT;
     }
     0
 }
@@ -165,7 +170,7 @@ pub(crate) fn read_bits(carrier: u8, flag: usize, n: usize, s: &[u8]) -> Transpo
     let x = run(s, n, front.next, 47);
     let kind = kind_at(n, front.next, x, ack);
     if kind == 0 {
-        return refused(21);
+        return refused(Fault::NOT_SDS_TL);
     }
     let fixed = fixed_at(front.next, kind, x);
     let stored = stored_at(s, n, fixed.next, fixed.storage);

@@ -25,44 +25,125 @@ get-few-at t = and 1 get-few-kinds.ps (is 1 get-few-kinds.ps μ-get-few t) get-f
 abbrev get-few-below : ℕ → In 1 get-few-kinds.ps
 get-few-below t = and 1 get-few-kinds.ps (falls 1 get-few-kinds.ps _<_ μ-get-few t) get-few.Pre
 
-returns : (t : ℕ) → get-few-lts.Need-returns (ending-reads.Asked, ending-reads.Learnt, get-few-below t, get-few.Post, get-in-byte-reads.Asked, get-in-byte-reads.Learnt) (get-few-at t) get-few.Post
+returns : (t : ℕ)
+    → get-few-lts.Need-returns (
+      ending-reads.Asked,
+      ending-reads.Learnt,
+      get-few-below t,
+      get-few.Post,
+      get-in-byte-reads.Asked,
+      get-in-byte-reads.Learnt,
+    ) (get-few-at t) get-few.Post
 unfolding num
 returns t c = record { is = rw (c .if1 .taken) refl; small = pow-pos (c .before .before .args .w) }
 
-add-last : (t : ℕ) → get-few-lts.Need-add-last (ending-reads.Asked, ending-reads.Learnt, get-few-below t, get-few.Post, get-in-byte-reads.Asked, get-in-byte-reads.Learnt) (get-few-at t) get-few.Post
+add-last : (t : ℕ)
+    → get-few-lts.Need-add-last (
+      ending-reads.Asked,
+      ending-reads.Learnt,
+      get-few-below t,
+      get-few.Post,
+      get-in-byte-reads.Asked,
+      get-in-byte-reads.Learnt,
+    ) (get-few-at t) get-few.Post
 add-last t c = omega arith
 
-sub-last : (t : ℕ) → get-few-lts.Need-sub-last (ending-reads.Asked, ending-reads.Learnt, get-few-below t, get-few.Post, get-in-byte-reads.Asked, get-in-byte-reads.Learnt) (get-few-at t) get-few.Post
+sub-last : (t : ℕ)
+    → get-few-lts.Need-sub-last (
+      ending-reads.Asked,
+      ending-reads.Learnt,
+      get-few-below t,
+      get-few.Post,
+      get-in-byte-reads.Asked,
+      get-in-byte-reads.Learnt,
+    ) (get-few-at t) get-few.Post
 sub-last t c = omega arith
 
-ending-requires : (t : ℕ) → get-few-lts.Need-ending-requires (ending-reads.Asked, ending-reads.Learnt, get-few-below t, get-few.Post, get-in-byte-reads.Asked, get-in-byte-reads.Learnt) (get-few-at t) get-few.Post
+ending-requires : (t : ℕ)
+    → get-few-lts.Need-ending-requires (
+      ending-reads.Asked,
+      ending-reads.Learnt,
+      get-few-below t,
+      get-few.Post,
+      get-in-byte-reads.Asked,
+      get-in-byte-reads.Learnt,
+    ) (get-few-at t) get-few.Post
 ending-requires t c κs = tt
 
-sub-get-few : (t : ℕ) → get-few-lts.Need-sub-get-few (ending-reads.Asked, ending-reads.Learnt, get-few-below t, get-few.Post, get-in-byte-reads.Asked, get-in-byte-reads.Learnt) (get-few-at t) get-few.Post
+sub-get-few : (t : ℕ)
+    → get-few-lts.Need-sub-get-few (
+      ending-reads.Asked,
+      ending-reads.Learnt,
+      get-few-below t,
+      get-few.Post,
+      get-in-byte-reads.Asked,
+      get-in-byte-reads.Learnt,
+    ) (get-few-at t) get-few.Post
 sub-get-few t c = omega arith
 
-get-few-requires : (t : ℕ) → get-few-lts.Need-get-few-requires (ending-reads.Asked, ending-reads.Learnt, get-few-below t, get-few.Post, get-in-byte-reads.Asked, get-in-byte-reads.Learnt) (get-few-at t) get-few.Post
+get-few-requires : (t : ℕ)
+    → get-few-lts.Need-get-few-requires (
+      ending-reads.Asked,
+      ending-reads.Learnt,
+      get-few-below t,
+      get-few.Post,
+      get-in-byte-reads.Asked,
+      get-in-byte-reads.Learnt,
+    ) (get-few-at t) get-few.Post
 get-few-requires t c κs = let m = c .before .before .before .pre .0 in (omega arith, (omega arith, omega arith))
 
-shl-result : (t : ℕ) → get-few-lts.Need-shl-result (ending-reads.Asked, ending-reads.Learnt, get-few-below t, get-few.Post, get-in-byte-reads.Asked, get-in-byte-reads.Learnt) (get-few-at t) get-few.Post
+shl-result : (t : ℕ)
+    → get-few-lts.Need-shl-result (
+      ending-reads.Asked,
+      ending-reads.Learnt,
+      get-few-below t,
+      get-few.Post,
+      get-in-byte-reads.Asked,
+      get-in-byte-reads.Learnt,
+    ) (get-few-at t) get-few.Post
 shl-result t c = omega arith
 
-get-in-byte-requires : (t : ℕ) → get-few-lts.Need-get-in-byte-requires (ending-reads.Asked, ending-reads.Learnt, get-few-below t, get-few.Post, get-in-byte-reads.Asked, get-in-byte-reads.Learnt) (get-few-at t) get-few.Post
+get-in-byte-requires : (t : ℕ)
+    → get-few-lts.Need-get-in-byte-requires (
+      ending-reads.Asked,
+      ending-reads.Learnt,
+      get-few-below t,
+      get-few.Post,
+      get-in-byte-reads.Asked,
+      get-in-byte-reads.Learnt,
+    ) (get-few-at t) get-few.Post
 get-in-byte-requires t c κs = (omega arith, omega arith)
 
-returns-2 : (t : ℕ) → get-few-lts.Need-returns-2 (ending-reads.Asked, ending-reads.Learnt, get-few-below t, get-few.Post, get-in-byte-reads.Asked, get-in-byte-reads.Learnt) (get-few-at t) get-few.Post
+returns-2 : (t : ℕ)
+    → get-few-lts.Need-returns-2 (
+      ending-reads.Asked,
+      ending-reads.Learnt,
+      get-few-below t,
+      get-few.Post,
+      get-in-byte-reads.Asked,
+      get-in-byte-reads.Learnt,
+    ) (get-few-at t) get-few.Post
 returns-2 t c =
     let a = c .before .before .before .before .before .args in
     let k = c .before .before .ending .result in
     let b = bitsOf (a .s .now) in
     let e : a .at + a .w - 1 + 1 - k ≡ a .at + (a .w - k) = omega arith in
-    let is = few-code b (a .at) (a .w) k (c .before .get-few .result) (c .get-in-byte .result) (omega arith) (omega arith)
-    (omega (arith, length-bitsOf (a .s .now))) (c .before .get-few .ensures .is) (rw e at (c .get-in-byte .ensures .is)) in
+    let is =
+    few-code b (a .at) (a .w) k (c .before .get-few .result) (c .get-in-byte .result) (omega arith) (omega arith)
+    (omega (arith, length-bitsOf (a .s .now))) (c .before .get-few .ensures .is)
+    (rw e at (c .get-in-byte .ensures .is)) in
     record { is = is; small = rw is (num-take-lt (a .w) (drop (a .at) b)) }
 
 pub +get-few-spec : {M : Type 1} → statement M
 +get-few-spec =
-    close μ-get-few λ t. get-few-lts.spec (ending-reads.Asked, ending-reads.Learnt, get-few-below t, get-few.Post, get-in-byte-reads.Asked, get-in-byte-reads.Learnt) (get-few-at t) get-few.Post
+    close μ-get-few λ t. get-few-lts.spec (
+      ending-reads.Asked,
+      ending-reads.Learnt,
+      get-few-below t,
+      get-few.Post,
+      get-in-byte-reads.Asked,
+      get-in-byte-reads.Learnt,
+    ) (get-few-at t) get-few.Post
     (returns t)
     (add-last t)
     (sub-last t)

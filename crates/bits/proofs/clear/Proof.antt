@@ -13,7 +13,9 @@ use Rattle.bits.proofs.clear.Statement.{statement}
 use Rattle.bits.proofs.clear.Tie as tie
 
 abbrev Inv-loop : tie.InvT-loop
-Inv-loop out₀ from to i₀ out i = (from ≤ i) × (i ≤ to) × (length out ≡ length out₀) × (bitsOf out ≡ over from (replicate (i - from) false) (bitsOf out₀))
+Inv-loop out₀ from to i₀ out i =
+    (from ≤ i) × (i ≤ to) × (length out ≡ length out₀)
+    × (bitsOf out ≡ over from (replicate (i - from) false) (bitsOf out₀))
 
 abbrev μ-loop : tie.MeasureT-loop
 μ-loop out₀ from to i₀ out i = to - i
@@ -45,7 +47,8 @@ loop-again c =
       omega arith,
       c .before .before .put .ensures
           ∙ rw (l .inv .3)
-          (clear-more (a .from) (l .i) (c .before .before .before .before .least .result) (bitsOf (a .out .now)) (omega arith) (omega (arith, length-bitsOf (a .out .now)))),
+          (clear-more (a .from) (l .i) (c .before .before .before .before .least .result) (bitsOf (a .out .now))
+          (omega arith) (omega (arith, length-bitsOf (a .out .now)))),
     )
 
 same-length : tie.Need-same-length Inv-loop μ-loop

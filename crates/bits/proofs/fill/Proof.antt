@@ -44,7 +44,8 @@ returns c =
     let w = c .before .before .before .before .before .before .before .before .least .result in
     c .before .before .clear .ensures
     ∙ rw (c .before .before .before .before .before .before .put .ensures, ones-of (w - 1) (omega arith))
-    (fill-end (a .from) (a .to) w (w - 1) (bitsOf (a .out .now)) (omega arith) (omega arith) (omega (arith, length-bitsOf (a .out .now))))
+    (fill-end (a .from) (a .to) w (w - 1) (bitsOf (a .out .now)) (omega arith) (omega arith)
+    (omega (arith, length-bitsOf (a .out .now))))
 
 returns-2 : tie.Need-returns-2
 unfolding fillBits

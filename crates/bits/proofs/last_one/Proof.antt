@@ -19,7 +19,8 @@ abbrev μ-loop : tie.MeasureT-loop
 
 loop-holds : tie.Need-loop-holds Inv-loop μ-loop
 unfolding strip
-loop-holds c = (omega arith, omega arith, rw (slice-empty (c .before .args .to) (bitsOf (c .before .args .s .now))) refl)
+loop-holds c =
+    (omega arith, omega arith, rw (slice-empty (c .before .args .to) (bitsOf (c .before .args .s .now))) refl)
 
 sub-i : tie.Need-sub-i Inv-loop μ-loop
 sub-i c = omega arith
@@ -33,7 +34,8 @@ returns c =
     let l = c .before .before .before .loop in
     let e : l .i - 1 + 1 - 1 ≡ l .i - 1 = omega arith in
     last-found (bitsOf (a .s .now)) (a .from) (a .to) (l .i) (l .i - 1) (omega arith) (omega arith) (omega arith)
-    (omega (arith, length-bitsOf (a .s .now))) (l .inv .2) (rw (c .before .get-in-byte .ensures .is, e) at (c .if1 .taken))
+    (omega (arith, length-bitsOf (a .s .now))) (l .inv .2)
+    (rw (c .before .get-in-byte .ensures .is, e) at (c .if1 .taken))
 
 loop-less : tie.Need-loop-less Inv-loop μ-loop
 loop-less c = omega arith
@@ -46,7 +48,8 @@ loop-again c =
       omega arith,
       omega arith,
       last-more (bitsOf (a .s .now)) (a .from) (a .to) (l .i) (l .i - 1) (omega arith) (omega arith) (omega arith)
-          (omega (arith, length-bitsOf (a .s .now))) (l .inv .2) (rw (c .before .get-in-byte .ensures .is, e) at (c .if1 .left)),
+          (omega (arith, length-bitsOf (a .s .now))) (l .inv .2)
+          (rw (c .before .get-in-byte .ensures .is, e) at (c .if1 .left)),
     )
 
 returns-2 : tie.Need-returns-2 Inv-loop μ-loop

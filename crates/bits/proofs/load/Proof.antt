@@ -8,14 +8,16 @@ use Rattle.bits.proofs.load.Statement.{statement}
 use Rattle.bits.proofs.load.Tie as tie
 
 abbrev Inv-loop : tie.InvT-loop
-Inv-loop s first last acc₀ i₀ low₀ acc i low = (first ≤ i) × (i ≤ last) × (low ≡ 8 * (last - i)) × (acc ≡ num (bitsOf (slice i last s)))
+Inv-loop s first last acc₀ i₀ low₀ acc i low =
+    (first ≤ i) × (i ≤ last) × (low ≡ 8 * (last - i)) × (acc ≡ num (bitsOf (slice i last s)))
 
 abbrev μ-loop : tie.MeasureT-loop
 μ-loop s first last acc₀ i₀ low₀ acc i low = i
 
 loop-holds : tie.Need-loop-holds Inv-loop μ-loop
 unfolding num bitsOf
-loop-holds c = (omega arith, omega arith, omega arith, rw (slice-empty (c .before .args .last) (c .before .args .s .now)) refl)
+loop-holds c =
+    (omega arith, omega arith, omega arith, rw (slice-empty (c .before .args .last) (c .before .args .s .now)) refl)
 
 sub-i : tie.Need-sub-i Inv-loop μ-loop
 sub-i c = omega arith
@@ -43,8 +45,10 @@ loop-again c =
       omega arith,
       omega arith,
       omega arith,
-      load-step (a .s .now) (l .i - 1) (a .last) (l .acc) (c .wide .result) (l .low) (omega arith) (omega arith) (omega arith)
-          (omega (arith, c .before .shared-slice-known2 .given (l .i - 1))) (omega arith) (rw e at (l .inv .3)) (c .wide .ensures),
+      load-step (a .s .now) (l .i - 1) (a .last) (l .acc) (c .wide .result) (l .low) (omega arith) (omega arith)
+          (omega arith)
+          (omega (arith, c .before .shared-slice-known2 .given (l .i - 1))) (omega arith) (rw e at (l .inv .3))
+          (c .wide .ensures),
     )
 
 returns : tie.Need-returns Inv-loop μ-loop

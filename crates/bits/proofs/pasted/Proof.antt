@@ -22,7 +22,10 @@ shl-result-2 c = mask-lt (c .before .args .after) 6
 add-result : tie.Need-add-result
 add-result c =
     let a = c .before .args in
-    record { fits = rw (c .cut .ensures) (paste-fits (a .whole) (a .after) (a .w) (a .v) (omega arith) (omega arith) (omega arith)) }
+    record {
+      fits = rw (c .cut .ensures)
+          (paste-fits (a .whole) (a .after) (a .w) (a .v) (omega arith) (omega arith) (omega arith));
+    }
 
 returns : tie.Need-returns
 returns c =

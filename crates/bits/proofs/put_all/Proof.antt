@@ -11,7 +11,8 @@ use Rattle.bits.proofs.put_all.Tie as tie
 
 abbrev Inv-loop : tie.InvT-loop
 Inv-loop out₀ at widths values to₀ acc₀ n₀ i₀ out to acc n i =
-    (i ≤ length widths) × (length out ≡ length out₀) × LeftAt widths values (over at (pack (partsWith widths values)) (bitsOf out₀)) out to n acc i
+    (i ≤ length widths) × (length out ≡ length out₀)
+    × LeftAt widths values (over at (pack (partsWith widths values)) (bitsOf out₀)) out to n acc i
 
 abbrev μ-loop : tie.MeasureT-loop
 μ-loop out₀ at widths values to₀ acc₀ n₀ i₀ out to acc n i = length widths - i
@@ -45,7 +46,8 @@ add-if1 : tie.Need-add-if1 Inv-loop μ-loop
 add-if1 c = let n = narrow c in omega arith
 
 put-requires : tie.Need-put-requires Inv-loop μ-loop
-put-requires c κs = let s = c .before .before .before .before .before .before .loop .inv .2 in (omega arith, s .short, s .held)
+put-requires c κs =
+    let s = c .before .before .before .before .before .before .loop .inv .2 in (omega arith, s .short, s .held)
 
 add-to : tie.Need-add-to Inv-loop μ-loop
 add-to c = omega arith
@@ -72,12 +74,15 @@ loop-again c =
     let same : length (w .2 .last .0) ≡ length (l .out) = w .2 .kept .0 in (
       omega arith,
       rw (w .5) (same ∙ l .inv .1),
-      rw (w .5, w .6, w .7, w .8, e) (waits-next (a .widths .now) (a .values .now) (l .i) (omega arith) (l .inv .2) (w .2 .last .0) same (w .2 .ensures)),
+      rw (w .5, w .6, w .7, w .8, e)
+          (waits-next (a .widths .now) (a .values .now) (l .i) (omega arith) (l .inv .2) (w .2 .last .0) same
+          (w .2 .ensures)),
     ))
     (λ w. (
       omega arith,
       rw (w .1) (l .inv .1),
-      rw (w .1, w .2, w .3, w .4, e) (joined-next (a .widths .now) (a .values .now) (l .i) (omega arith) (l .inv .2) (omega (arith, w .0 .left))),
+      rw (w .1, w .2, w .3, w .4, e)
+          (joined-next (a .widths .now) (a .values .now) (l .i) (omega arith) (l .inv .2) (omega (arith, w .0 .left))),
     ))
     (c .if1 .came)
 

@@ -31,7 +31,8 @@ returns c =
     let e : a .last * 8 % 2 ^ 64 - (a .at + a .w) ≡ r = omega arith in
     c .before .before .store .ensures
     ∙ rw (c .before .before .before .pasted .ensures, e, c .before .before .before .before .before .load .ensures)
-    (put-field (a .out .now) (a .at) (a .w) (a .v) (a .first) (a .last) r (omega arith) (omega arith) (omega arith) (omega arith) refl (omega arith))
+    (put-field (a .out .now) (a .at) (a .w) (a .v) (a .first) (a .last) r (omega arith) (omega arith) (omega arith)
+    (omega arith) refl (omega arith))
 
 pub put-through-spec : {M : Type 1} → statement M
 put-through-spec =

@@ -31,7 +31,8 @@ loop-again : tie.Need-loop-again Inv-loop μ-loop
 loop-again c =
     let a = c .before .before .args in
     let l = c .before .loop in
-    stored-more (a .out .now) (a .first) (a .last) (a .v) (omega arith) (omega arith) (l .i - 1) (omega arith) (omega arith) (l .inv)
+    stored-more (a .out .now) (a .first) (a .last) (a .v) (omega arith) (omega arith) (l .i - 1) (omega arith)
+    (omega arith) (l .inv)
 
 same-length : tie.Need-same-length Inv-loop μ-loop
 same-length c = omega arith

@@ -19,8 +19,14 @@ slice-aggregate-put-all-2 c = search needs
 
 put-all-requires : tie.Need-put-all-requires
 put-all-requires c κs =
-    let t = fill-flag (c .before .before .before .before .before .before .args .count) 264 (c .before .before .before .told .ensures) in
-    (refl, (omega arith, (omega arith, (omega arith, tt))), (omega arith, (omega arith, (omega arith, tt))), omega arith)
+    let t =
+    fill-flag (c .before .before .before .before .before .before .args .count) 264
+    (c .before .before .before .told .ensures) in (
+      refl,
+      (omega arith, (omega arith, (omega arith, tt))),
+      (omega arith, (omega arith, (omega arith, tt))),
+      omega arith,
+    )
 
 add-put-room : tie.Need-add-put-room
 add-put-room c = search needs
@@ -33,12 +39,16 @@ same-length c = search needs
 
 returns : tie.Need-returns
 returns c =
-    let a = c .before .before .before .before .before .before .before .before .before .before .before .before .before .args in
+    let a =
+    c .before .before .before .before .before .before .before .before .before .before .before .before .before .args in
     let m = take (a .count) (drop (a .from) (bitsOf (a .message .now))) in
     c .before .before .put-room .ensures
     ∙ rw (c .before .before .before .before .before .before .put-all .ensures)
-    (block-put (a .at) (a .last) (a .count) (c .before .before .before .before .before .before .before .before .before .before .told .result) m (bitsOf (a .out .now))
-    (length-part (a .count) (a .from) (bitsOf (a .message .now)) (omega (arith, length-bitsOf (a .message .now)))) (c .before .before .before .before .before .before .before .before .before .before .told .ensures) (omega arith)
+    (block-put (a .at) (a .last) (a .count)
+    (c .before .before .before .before .before .before .before .before .before .before .told .result) m
+    (bitsOf (a .out .now))
+    (length-part (a .count) (a .from) (bitsOf (a .message .now)) (omega (arith, length-bitsOf (a .message .now))))
+    (c .before .before .before .before .before .before .before .before .before .before .told .ensures) (omega arith)
     (omega (arith, length-bitsOf (a .out .now))))
 
 pub put-block-spec : {M : Type 1} → statement M

@@ -14,7 +14,8 @@ use Rattle.build.proofs.put_blocks.Tie as tie
 abbrev Inv-loop : tie.InvT-loop
 Inv-loop message inside n blocks out₀ left₀ from₀ at₀ out left from at =
     (left ≤ blocks) × (from ≤ n) × (at + 272 * left ≡ 192 + 272 * blocks) × (length out ≡ length out₀)
-    × (over at (continuationBlocks left (drop from (take n (bitsOf message)))) (bitsOf out) ≡ over 192 (continuationBlocks blocks (drop inside (take n (bitsOf message)))) (bitsOf out₀))
+    × (over at (continuationBlocks left (drop from (take n (bitsOf message)))) (bitsOf out)
+    ≡ over 192 (continuationBlocks blocks (drop inside (take n (bitsOf message)))) (bitsOf out₀))
 
 abbrev μ-loop : tie.MeasureT-loop
 μ-loop message inside n blocks out₀ left₀ from₀ at₀ out left from at = left
@@ -32,7 +33,13 @@ last-when-requires : tie.Need-last-when-requires Inv-loop μ-loop
 last-when-requires c κs = tt
 
 put-block-requires : tie.Need-put-block-requires Inv-loop μ-loop
-put-block-requires c κs = (flag-le (c .before .before .before .before .loop .left) (c .before .last-when .ensures), omega arith, omega arith, omega arith)
+put-block-requires c κs = (
+  flag-le (c .before .before .before .before .loop .left)
+      (c .before .last-when .ensures),
+  omega arith,
+  omega arith,
+  omega arith,
+)
 
 add-from : tie.Need-add-from Inv-loop μ-loop
 add-from c = omega arith
@@ -55,9 +62,13 @@ loop-again c =
       omega arith,
       omega arith,
       omega arith,
-      blocks-turn b (a .n) (l .from) (c .before .before .before .before .before .least .result) (l .left) (l .left - 1) (c .before .before .before .before .last-when .result) (l .at) (omega arith)
-          (c .before .before .before .before .before .least .ensures) (c .before .before .before .before .last-when .ensures) (omega arith) (omega (arith, length-bitsOf (a .message .now))) (bitsOf (l .out))
-          (bitsOf (c .before .before .put-block .last .1 .1 .1 .1 .0)) (omega (arith, length-bitsOf (l .out))) (c .before .before .put-block .ensures)
+      blocks-turn b (a .n) (l .from) (c .before .before .before .before .before .least .result) (l .left) (l .left - 1)
+          (c .before .before .before .before .last-when .result) (l .at) (omega arith)
+          (c .before .before .before .before .before .least .ensures)
+          (c .before .before .before .before .last-when .ensures) (omega arith)
+          (omega (arith, length-bitsOf (a .message .now))) (bitsOf (l .out))
+          (bitsOf (c .before .before .put-block .last .1 .1 .1 .1 .0)) (omega (arith, length-bitsOf (l .out)))
+          (c .before .before .put-block .ensures)
           ∙ l .inv .4,
     )
 

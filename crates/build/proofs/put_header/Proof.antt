@@ -3,59 +3,16 @@ use native.Mathlib.Omega.{arith}
 use lib.ListN.{take}
 use Rattle.bits.specs.Bits.{bitsOf}
 use Rattle.bits.proofs.Bytes.{length-bitsOf}
-use Rattle.blocks.proofs.HeaderLaws.{width-le-24}
-use Rattle.build.proofs.BuildLaws.{fill-flag, length-part, narrow-parts, header-first, header-parts, header-put}
+use Rattle.build.proofs.BuildLaws.{fill-flag, length-part, fill-fits, narrow-parts, header-put}
 use borrow.Author.Needs.{needs}
 use Rattle.build.proofs.put_header.Statement.{statement}
 use Rattle.build.proofs.put_header.Tie as tie
 
-address-width-requires : tie.Need-address-width-requires
-address-width-requires c κs = search needs
+header-widths-requires : tie.Need-header-widths-requires
+header-widths-requires c κs = search needs
 
-address-width-requires-2 : tie.Need-address-width-requires-2
-address-width-requires-2 c κs = search needs
-
-mul-t16 : tie.Need-mul-t16
-mul-t16 c = search needs
-
-cast-t17 : tie.Need-cast-t17
-cast-t17 c = search needs
-
-cast-t18 : tie.Need-cast-t18
-cast-t18 c = search needs
-
-mul-first : tie.Need-mul-first
-mul-first c = search needs
-
-add-first : tie.Need-add-first
-add-first c = search needs
-
-add-first-2 : tie.Need-add-first-2
-add-first-2 c = search needs
-
-add-first-3 : tie.Need-add-first-3
-add-first-3 c = search needs
-
-add-first-4 : tie.Need-add-first-4
-add-first-4 c = search needs
-
-add-first-5 : tie.Need-add-first-5
-add-first-5 c = search needs
-
-add-first-6 : tie.Need-add-first-6
-add-first-6 c = search needs
-
-add-first-7 : tie.Need-add-first-7
-add-first-7 c = search needs
-
-add-first-8 : tie.Need-add-first-8
-add-first-8 c = search needs
-
-cast-first : tie.Need-cast-first
-cast-first c = search needs
-
-add-first-9 : tie.Need-add-first-9
-add-first-9 c = search needs
+header-bits-requires : tie.Need-header-bits-requires
+header-bits-requires c κs = search needs
 
 sub-room : tie.Need-sub-room
 sub-room c = search needs
@@ -63,23 +20,23 @@ sub-room c = search needs
 told-requires : tie.Need-told-requires
 told-requires c κs = search needs
 
-cast-t34 : tie.Need-cast-t34
-cast-t34 c = search needs
+cast-t19 : tie.Need-cast-t19
+cast-t19 c = search needs
 
-cast-t35 : tie.Need-cast-t35
-cast-t35 c = search needs
+cast-t20 : tie.Need-cast-t20
+cast-t20 c = search needs
 
-cast-t36 : tie.Need-cast-t36
-cast-t36 c = search needs
+cast-t21 : tie.Need-cast-t21
+cast-t21 c = search needs
 
-cast-t37 : tie.Need-cast-t37
-cast-t37 c = search needs
+cast-t22 : tie.Need-cast-t22
+cast-t22 c = search needs
 
-cast-t38 : tie.Need-cast-t38
-cast-t38 c = search needs
+cast-t23 : tie.Need-cast-t23
+cast-t23 c = search needs
 
-cast-t39 : tie.Need-cast-t39
-cast-t39 c = search needs
+cast-t24 : tie.Need-cast-t24
+cast-t24 c = search needs
 
 slice-aggregate-put-all : tie.Need-slice-aggregate-put-all
 slice-aggregate-put-all c = search needs
@@ -89,60 +46,90 @@ slice-aggregate-put-all-2 c = search needs
 
 put-all-requires : tie.Need-put-all-requires
 put-all-requires c κs =
-    let a = c .before .before .before .before .before .before .before .before .before .before .before .before .before .before .before .before .before .args in
-    let t = fill-flag (a .inside) _ (c .before .before .before .before .before .before .before .before .before .told .ensures) in
-    let w = width-le-24 (a .fields .destination .kind) (c .before .before .before .before .before .before .before .before .before .before .before .before .address-width .ensures) in
-    let v = width-le-24 (a .fields .source .kind) (c .before .before .before .before .before .before .before .before .before .before .before .address-width2 .ensures) in
-    let k = c .before .before .before .before .before .before .before .before .before .before .before .before .before .before .before .before .before .pre .0 in
-    let h = header-first (a .fragmented) (a .count) (a .countdown) (a .inside) (c .before .before .before .before .before .before .before .before .before .told .result) (c .before .before .before .before .before .before .before .before .before .before .before .before .address-width .result) (c .before .before .before .before .before .before .before .before .before .before .before .address-width2 .result) (a .fields) (take (a .inside) (bitsOf (a .message .now))) (c .before .before .before .before .before .before .before .before .before .before .before .before .address-width .ensures) (c .before .before .before .before .before .before .before .before .before .before .before .address-width2 .ensures) (c .before .before .before .before .before .before .before .before .before .before .before .before .before .before .before .before .before .pre .0) in
-    (refl, narrow-parts k w v, header-parts (a .fragmented) (a .count) (a .countdown) (a .inside) (c .before .before .before .before .before .before .before .before .before .told .result) (c .before .before .before .before .before .before .before .before .before .before .before .before .address-width .result) (c .before .before .before .before .before .before .before .before .before .before .before .address-width2 .result) (a .fields) (take (a .inside) (bitsOf (a .message .now))) (c .before .before .before .before .before .before .before .before .before .before .before .before .address-width .ensures) (c .before .before .before .before .before .before .before .before .before .before .before .address-width2 .ensures) (c .before .before .before .before .before .before .before .before .before .before .before .before .before .before .before .before .before .pre .0) t, omega (arith, c .before .before .before .before .before .before .before .before .before .before .before .before .before .before .before .before .before .pre .2))
+    let a =
+    c .before .before .before .before .before .before .before .before .before .before .before .before .before .before
+    .before .before .args in
+    let asked =
+    c .before .before .before .before .before .before .before .before .before .before .before .before .before .before
+    .before .before .pre in
+    let k = asked .0 in
+    let fill = c .before .before .before .before .before .before .before .before .before .told in
+    let t = fill-flag (a .inside) _ (fill .ensures) in
+    rw (c .before .before .before .before .before .before .before .before .before .before .before .header-widths
+    .ensures) (
+      refl,
+      narrow-parts (a .fragmented) (a .count) (a .countdown) (a .inside) (a .fields) k,
+      fill-fits (a .fragmented) (a .count) (a .countdown) (fill .result) (a .fields) t (k .parts),
+      omega (arith, k .room, asked .2),
+    )
 
 add-put-room : tie.Need-add-put-room
-add-put-room c = let a = c .before .before .before .before .before .before .before .before .before .before .before .before .before .before .before .before .before .before .before .before .before .args in let h = header-first (a .fragmented) (a .count) (a .countdown) (a .inside) (c .before .before .before .before .before .before .before .before .before .before .before .before .before .told .result) (c .before .before .before .before .before .before .before .before .before .before .before .before .before .before .before .before .address-width .result) (c .before .before .before .before .before .before .before .before .before .before .before .before .before .before .before .address-width2 .result) (a .fields) (take (a .inside) (bitsOf (a .message .now))) (c .before .before .before .before .before .before .before .before .before .before .before .before .before .before .before .before .address-width .ensures) (c .before .before .before .before .before .before .before .before .before .before .before .before .before .before .before .address-width2 .ensures) (c .before .before .before .before .before .before .before .before .before .before .before .before .before .before .before .before .before .before .before .before .before .pre .0) in omega arith
+add-put-room c =
+    omega (
+      arith,
+      c .before .before .before .before .before .before .before .before .before .before .before .before
+          .before .before .before .before .before .before .before .before .pre .0 .room,
+      c .before .before .before .before
+          .before .before .before .before .before .before .before .before .before .before .header-bits .ensures,
+    )
 
 put-room-requires : tie.Need-put-room-requires
-put-room-requires c κs = let a = c .before .before .before .before .before .before .before .before .before .before .before .before .before .before .before .before .before .before .before .before .before .args in let h = header-first (a .fragmented) (a .count) (a .countdown) (a .inside) (c .before .before .before .before .before .before .before .before .before .before .before .before .before .told .result) (c .before .before .before .before .before .before .before .before .before .before .before .before .before .before .before .before .address-width .result) (c .before .before .before .before .before .before .before .before .before .before .before .before .before .before .before .address-width2 .result) (a .fields) (take (a .inside) (bitsOf (a .message .now))) (c .before .before .before .before .before .before .before .before .before .before .before .before .before .before .before .before .address-width .ensures) (c .before .before .before .before .before .before .before .before .before .before .before .before .before .before .before .address-width2 .ensures) (c .before .before .before .before .before .before .before .before .before .before .before .before .before .before .before .before .before .before .before .before .before .pre .0) in omega (arith, c .before .before .before .before .before .before .before .before .before .before .before .before .before .before .before .before .before .before .before .before .before .pre .1, c .before .before .before .before .before .before .before .before .before .before .before .before .before .before .before .before .before .before .before .before .before .pre .2, c .before .before .before .put-all .kept)
+put-room-requires c κs =
+    let asked =
+    c .before .before .before .before .before .before .before .before .before .before .before .before .before .before
+    .before .before .before .before .before .before .pre in
+    let first =
+    c .before .before .before .before .before .before .before .before .before .before .before .before .before .before
+    .header-bits .ensures in
+    omega (arith, asked .0 .room, asked .1, asked .2, first, c .before .before .before .put-all .kept)
 
 same-length : tie.Need-same-length
 same-length c = search needs
 
 returns : tie.Need-returns
 returns c =
-    let a = c .before .before .before .before .before .before .before .before .before .before .before .before .before .before .before .before .before .before .before .before .before .before .before .before .args in
+    let a =
+    c .before .before .before .before .before .before .before .before .before .before .before .before .before .before
+    .before .before .before .before .before .before .before .before .before .args in
+    let asked =
+    c .before .before .before .before .before .before .before .before .before .before .before .before .before .before
+    .before .before .before .before .before .before .before .before .before .pre in
+    let fill =
+    c .before .before .before .before .before .before .before .before .before .before .before .before .before .before
+    .before .before .told in
     let b = bitsOf (a .message .now) in
+    let m = take (a .inside) b in
+    let first =
+    c .before .before .before .before .before .before .before .before .before .before .before .before .before .before
+    .before .before .before .header-bits .ensures in
     c .before .before .put-room .ensures
-    ∙ rw (c .before .before .before .before .before .before .put-all .ensures)
-    (header-put (a .fragmented) (a .count) (a .countdown) (a .inside) (c .before .before .before .before .before .before .before .before .before .before .before .before .before .before .before .before .told .result) (c .before .before .before .before .before .before .before .before .before .before .before .before .before .before .before .before .before .before .before .address-width .result) (c .before .before .before .before .before .before .before .before .before .before .before .before .before .before .before .before .before .before .address-width2 .result) (a .fields) (take (a .inside) (bitsOf (a .message .now))) (c .before .before .before .before .before .before .before .before .before .before .before .before .before .before .before .before .before .before .before .address-width .ensures) (c .before .before .before .before .before .before .before .before .before .before .before .before .before .before .before .before .before .before .address-width2 .ensures) (c .before .before .before .before .before .before .before .before .before .before .before .before .before .before .before .before .before .before .before .before .before .before .before .before .pre .0) (bitsOf (a .out .now)) (length-part (a .inside) 0 b (omega (arith, length-bitsOf (a .message .now), c .before .before .before .before .before .before .before .before .before .before .before .before .before .before .before .before .before .before .before .before .before .before .before .before .pre .1)))
-    (c .before .before .before .before .before .before .before .before .before .before .before .before .before .before .before .before .told .ensures) (omega (arith, length-bitsOf (a .out .now), c .before .before .before .before .before .before .before .before .before .before .before .before .before .before .before .before .before .before .before .before .before .before .before .before .pre .2)))
+    ∙ rw (
+      c .before .before .before .before .before .before .put-all .ensures,
+      c .before .before .before .before .before
+          .before .before .before .before .before .before .before .before .before .before .before .before .before
+          .header-widths .ensures,
+      first,
+    )
+    (header-put (a .fragmented) (a .count) (a .countdown) (a .inside) (a .fields) (asked .0) (fill .result) m
+    (bitsOf (a .out .now))
+    (length-part (a .inside) 0 b (omega (arith, length-bitsOf (a .message .now), asked .1)))
+    (rw first at (fill .ensures))
+    (omega (arith, length-bitsOf (a .out .now), asked .2)))
 
 pub put-header-spec : {M : Type 1} → statement M
 put-header-spec =
     tie.close
     (tie.spec
-    address-width-requires
-    address-width-requires-2
-    mul-t16
-    cast-t17
-    cast-t18
-    mul-first
-    add-first
-    add-first-2
-    add-first-3
-    add-first-4
-    add-first-5
-    add-first-6
-    add-first-7
-    add-first-8
-    cast-first
-    add-first-9
+    header-widths-requires
+    header-bits-requires
     sub-room
     told-requires
-    cast-t34
-    cast-t35
-    cast-t36
-    cast-t37
-    cast-t38
-    cast-t39
+    cast-t19
+    cast-t20
+    cast-t21
+    cast-t22
+    cast-t23
+    cast-t24
     slice-aggregate-put-all
     slice-aggregate-put-all-2
     put-all-requires

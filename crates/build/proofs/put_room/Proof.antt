@@ -31,12 +31,18 @@ same-length c = search needs
 
 returns : tie.Need-returns
 returns c =
-    let a = c .before .before .before .before .before .before .before .before .before .before .before .before .before .before .args in
+    let a =
+    c .before .before .before .before .before .before .before .before .before .before .before .before .before .before
+    .args in
     let m = take (a .count) (drop (a .from) (bitsOf (a .message .now))) in
     c .before .before .put .ensures
-    ∙ rw (c .before .before .before .before .before .before .fill .ensures, c .before .before .before .before .before .before .before .before .before .before .copy .ensures)
+    ∙ rw (
+      c .before .before .before .before .before .before .fill .ensures,
+      c .before .before .before .before .before .before .before .before .before .before .copy .ensures,
+    )
     (room-put (a .at) (a .count) (a .room) m (bitsOf (a .out .now))
-    (length-part (a .count) (a .from) (bitsOf (a .message .now)) (omega (arith, length-bitsOf (a .message .now)))) (omega arith)
+    (length-part (a .count) (a .from) (bitsOf (a .message .now)) (omega (arith, length-bitsOf (a .message .now))))
+    (omega arith)
     (omega (arith, length-bitsOf (a .out .now))))
 
 pub put-room-spec : {M : Type 1} → statement M

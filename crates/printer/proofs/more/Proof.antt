@@ -26,7 +26,16 @@ same-length : tie.Need-same-length
 same-length c = search needs
 
 returns : tie.Need-returns
-returns c = (omega arith, search needs, take-at (take (c .before .before .before .before .before .args .have) (c .before .before .before .before .before .args .log .now)) _ (c .before .before .before .before .before .args .have) (length-take-le (c .before .before .before .before .before .args .have) (c .before .before .before .before .before .args .log .now) (c .before .before .before .before .before .pre)))
+returns c = (
+  omega arith,
+  search needs,
+  take-at
+      (take (c .before .before .before .before .before .args .have)
+      (c .before .before .before .before .before .args .log .now))
+      _ (c .before .before .before .before .before .args .have)
+      (length-take-le (c .before .before .before .before .before .args .have)
+      (c .before .before .before .before .before .args .log .now) (c .before .before .before .before .before .pre)),
+)
 
 pub more-spec : {M : Type 1} → statement M
 more-spec =

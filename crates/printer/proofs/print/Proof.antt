@@ -7,19 +7,14 @@ use Rattle.printer.proofs.print.Statement.{statement}
 use Rattle.printer.proofs.print.Tie as tie
 
 abbrev Inv-loop : tie.InvT-loop
-Inv-loop log₀ x₀ turns₀ log x turns = Reached (x .receiver) × (x .have ≤ length log) × (length log ≡ 131072)
+Inv-loop log₀ have x₀ turns₀ log x turns =
+    Reached (x .receiver) × (x .have ≤ length log) × (length log ≡ length log₀)
 
 abbrev μ-loop : tie.MeasureT-loop
-μ-loop log₀ x₀ turns₀ log x turns = turns
-
-log-room-requires : tie.Need-log-room-requires Inv-loop μ-loop
-log-room-requires c κs = search needs
+μ-loop log₀ have x₀ turns₀ log x turns = turns
 
 loop-holds : tie.Need-loop-holds Inv-loop μ-loop
 loop-holds c = search needs
-
-slice-aggregate-turn : tie.Need-slice-aggregate-turn Inv-loop μ-loop
-slice-aggregate-turn c = search needs
 
 turn-requires : tie.Need-turn-requires Inv-loop μ-loop
 turn-requires c κs = search needs
@@ -33,8 +28,14 @@ loop-less c = search needs
 loop-again : tie.Need-loop-again Inv-loop μ-loop
 loop-again c = search needs
 
+same-length : tie.Need-same-length Inv-loop μ-loop
+same-length c = search needs
+
 returns : tie.Need-returns Inv-loop μ-loop
 returns c = search needs
+
+same-length-2 : tie.Need-same-length-2 Inv-loop μ-loop
+same-length-2 c = search needs
 
 returns-2 : tie.Need-returns-2 Inv-loop μ-loop
 returns-2 c = search needs
@@ -45,12 +46,12 @@ print-spec =
     (tie.spec
     Inv-loop
     μ-loop
-    log-room-requires
     loop-holds
-    slice-aggregate-turn
     turn-requires
     sub-turns
     loop-less
     loop-again
+    same-length
     returns
+    same-length-2
     returns-2)

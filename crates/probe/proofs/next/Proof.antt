@@ -16,13 +16,17 @@ enum-known-kind : tie.Need-enum-known-kind
 enum-known-kind c = search needs
 
 array-share-prefix-body : tie.Need-array-share-prefix-body
-array-share-prefix-body c = body-held (c .before .before .before .before .take .last .0) (c .before .kind .given .1) (c .before .before .before .before .take .ensures) .0
+array-share-prefix-body c =
+    body-held (c .before .before .before .before .take .last .0) (c .before .kind .given .1)
+    (c .before .before .before .before .take .ensures) .0
 
-slice-aggregate-answered : tie.Need-slice-aggregate-answered
-slice-aggregate-answered c = body-held (c .before .before .before .before .before .take .last .0) (c .before .before .kind .given .1) (c .before .before .before .before .before .take .ensures) .1
+slice-aggregate-answer-record : tie.Need-slice-aggregate-answer-record
+slice-aggregate-answer-record c =
+    body-held (c .before .before .before .before .before .take .last .0) (c .before .before .kind .given .1)
+    (c .before .before .before .before .before .take .ensures) .1
 
-answered-requires : tie.Need-answered-requires
-answered-requires c κs = search needs
+answer-record-requires : tie.Need-answer-record-requires
+answer-record-requires c κs = search needs
 
 enum-told : tie.Need-enum-told
 enum-told c = search needs
@@ -51,8 +55,8 @@ next-spec =
     take-requires
     enum-known-kind
     array-share-prefix-body
-    slice-aggregate-answered
-    answered-requires
+    slice-aggregate-answer-record
+    answer-record-requires
     enum-told
     cut-requires
     enum-told-2

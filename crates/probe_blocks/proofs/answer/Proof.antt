@@ -24,7 +24,8 @@ same-length c = search needs
 returns : tie.Need-returns
 returns c =
     let a = c .before .before .before .before .before .before .before .args in
-    rw (line-5 (a .kind) (a .body .now) (c .before .before .before .before .match .keys1)) (c .before .before .build .ensures)
+    rw (line-5 (a .kind) (a .body .now) (c .before .before .before .before .match .keys1))
+    (c .before .before .build .ensures)
 
 same-length-2 : tie.Need-same-length-2
 same-length-2 c = search needs
@@ -32,7 +33,8 @@ same-length-2 c = search needs
 returns-2 : tie.Need-returns-2
 returns-2 c =
     let a = c .before .before .before .before .before .before .before .args in
-    rw (line-6 (a .kind) (a .body .now) (c .before .before .before .before .match .keys2)) (c .before .before .header .ensures)
+    rw (line-6 (a .kind) (a .body .now) (c .before .before .before .before .match .keys2))
+    (c .before .before .header .ensures)
 
 same-length-3 : tie.Need-same-length-3
 same-length-3 c = search needs
@@ -40,7 +42,8 @@ same-length-3 c = search needs
 returns-3 : tie.Need-returns-3
 returns-3 c =
     let a = c .before .before .before .before .before .before .before .args in
-    rw (line-7 (a .kind) (a .body .now) (c .before .before .before .before .match .keys3)) (c .before .before .block .ensures)
+    rw (line-7 (a .kind) (a .body .now) (c .before .before .before .before .match .keys3))
+    (c .before .before .block .ensures)
 
 same-length-4 : tie.Need-same-length-4
 same-length-4 c = search needs
@@ -48,7 +51,8 @@ same-length-4 c = search needs
 returns-4 : tie.Need-returns-4
 returns-4 c =
     let a = c .before .before .before .before .before .before .before .args in
-    rw (line-8 (a .kind) (a .body .now) (c .before .before .before .before .match .keys4)) (c .before .before .frame .ensures)
+    rw (line-8 (a .kind) (a .body .now) (c .before .before .before .before .match .keys4))
+    (c .before .before .frame .ensures)
 
 same-length-5 : tie.Need-same-length-5
 same-length-5 c = search needs
@@ -57,7 +61,8 @@ returns-5 : tie.Need-returns-5
 returns-5 c =
     let a = c .before .before .before .before .before .before .before .args in
     let m = c .before .before .before .before .match .rest in
-    rw (line-other (a .kind) (a .body .now) (m .0 .0 .0 .1) (m .0 .0 .1) (m .0 .1) (m .1)) (c .before .before .unknown .ensures)
+    rw (line-other (a .kind) (a .body .now) (m .0 .0 .0 .1) (m .0 .0 .1) (m .0 .1) (m .1))
+    (c .before .before .unknown .ensures)
 
 pub answer-spec : {M : Type 1} → statement M
 answer-spec =

@@ -31,12 +31,14 @@ hear-requires c κs = search needs
 
 report-line-requires : tie.Need-report-line-requires
 report-line-requires c κs =
-    let a = c .before .before .before .before .before .before .before .before .before .before .before .before .before .before .before .args in
-    let p = c .before .before .before .before .before .before .before .before .before .before .before .before .before .before .before .pre in
-    let k = c .before .before .before .before .before .before .hear in
+    let s = c .before .before .before .before .before .before in
+    let k = s .hear in
+    let a = s .before .before .before .before .before .before .before .before .before .args in
+    let p = s .before .before .before .before .before .before .before .before .before .pre in
     let b = a .body .now in
     let l = lent (getD b 0 0) (getD b 1 0) (getD b 2 0) (take (length b - 5) (drop 5 b)) in
-    let w : handedBy (k .result .answer) ≤ length (a .message .now) = handed-inside (a .before) (p .0) l (k .result) (a .message .now) _ (k .ensures .1) (k .kept .1 .1 .1 .1 .1 .0) in
+    let w : handedBy (k .result .answer) ≤ length (a .message .now) =
+    handed-inside (a .before) (p .0) l (k .result) (a .message .now) _ (k .ensures .1) (k .kept .1 .1 .1 .1 .1 .0) in
     (omega (arith, w, k .kept), omega (arith, p, k .kept), omega (arith, p))
 
 same-length : tie.Need-same-length
@@ -47,9 +49,13 @@ same-length-2 c = search needs
 
 returns : tie.Need-returns
 returns c =
-    let a = c .before .before .before .before .before .before .before .before .before .before .before .before .before .before .before .before .before .before .args in
-    let k = c .before .before .before .before .before .before .before .before .before .hear .ensures in
-    (k .0, report-heard (a .before) (a .line .now) (a .body .now) (a .message .now) (k .1) (c .before .before .report-line .ensures))
+    let s = c .before .before .before .before .before .before .before .before .before in
+    let k = s .hear .ensures in
+    let a = s .before .before .before .before .before .before .before .before .before .args in (
+      k .0,
+      report-heard (a .before) (a .line .now) (a .body .now) (a .message .now) (k .1)
+          (c .before .before .report-line .ensures),
+    )
 
 pub heard-spec : {M : Type 1} → statement M
 heard-spec =

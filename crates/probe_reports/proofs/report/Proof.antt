@@ -6,7 +6,9 @@ use Rattle.probe_reports.proofs.report.Statement.{statement}
 use Rattle.probe_reports.proofs.report.Tie as tie
 
 returns : tie.Need-returns
-returns c = let a = c .before .before .before .args in (c .before .before .before .pre .0, report-short (a .before) (a .line .now) (a .body .now) (omega arith))
+returns c =
+    let a = c .before .before .before .args in
+    (c .before .before .before .pre .0, report-short (a .before) (a .line .now) (a .body .now) (omega arith))
 
 two-at-requires : tie.Need-two-at-requires
 two-at-requires c κs = search needs
@@ -23,8 +25,11 @@ same-length c = search needs
 returns-2 : tie.Need-returns-2
 returns-2 c =
     let a = c .before .before .before .before .before .before .before .before .before .args in
-    let t = c .before .before .before .before .before .two-at .ensures in
-    (c .before .before .before .before .before .before .before .before .before .pre .0, report-kind (a .before) (a .line .now) (a .body .now) _ (c .before .before .unknown .result) (omega arith) (omega arith) (c .before .before .unknown .ensures))
+    let t = c .before .before .before .before .before .two-at .ensures in (
+      c .before .before .before .before .before .before .before .before .before .pre .0,
+      report-kind (a .before) (a .line .now) (a .body .now) _ (c .before .before .unknown .result) (omega arith)
+          (omega arith) (c .before .before .unknown .ensures),
+    )
 
 array-borrow-prefix-message : tie.Need-array-borrow-prefix-message
 array-borrow-prefix-message c = search needs
@@ -33,7 +38,9 @@ slice-aggregate-heard : tie.Need-slice-aggregate-heard
 slice-aggregate-heard c = simp (length-take, length-replicate) (omega arith)
 
 heard-requires : tie.Need-heard-requires
-heard-requires c κs = let p = c .before .before .before .before .before .before .before .pre in (p .0, omega arith, simp (length-take, length-replicate) (omega arith), omega (arith, p .1))
+heard-requires c κs =
+    let p = c .before .before .before .before .before .before .before .pre in
+    (p .0, omega arith, simp (length-take, length-replicate) (omega arith), omega (arith, p .1))
 
 same-length-2 : tie.Need-same-length-2
 same-length-2 c = search needs

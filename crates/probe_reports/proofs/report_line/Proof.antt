@@ -21,7 +21,9 @@ same-length : tie.Need-same-length
 same-length c = search needs
 
 returns : tie.Need-returns
-returns c = rw (c .before .before .before .before .before .before .before .answer-numbers .ensures) at (c .before .before .line-with .ensures)
+returns c =
+    rw (c .before .before .before .before .before .before .before .answer-numbers .ensures)
+    at (c .before .before .line-with .ensures)
 
 pub report-line-spec : {M : Type 1} → statement M
 report-line-spec =

@@ -5,7 +5,9 @@ use Rattle.probe_reports.proofs.unit.Statement.{statement}
 use Rattle.probe_reports.proofs.unit.Tie as tie
 
 returns : tie.Need-returns
-returns c = let a = c .before .before .before .args in (c .before .before .before .pre .0, unit-short (a .before) (a .line .now) (a .body .now) (omega arith))
+returns c =
+    let a = c .before .before .before .args in
+    (c .before .before .before .pre .0, unit-short (a .before) (a .line .now) (a .body .now) (omega arith))
 
 four-requires : tie.Need-four-requires
 four-requires c κs = search needs
@@ -28,8 +30,14 @@ same-length c = search needs
 returns-2 : tie.Need-returns-2
 returns-2 c =
     let a = c .before .before .before .before .before .before .before .before .before .before .before .before .args in
-    let f = c .before .before .before .before .before .fresh .ensures in
-    (f .1, unit-said (a .before) (a .line .now) (a .body .now) (omega arith) (c .before .before .before .before .before .before .before .before .four .ensures) (c .before .before .before .before .before .before .before .four2 .ensures) (c .before .before .before .before .before .before .four3 .ensures) (f .0) (c .before .before .unit-line .ensures))
+    let f = c .before .before .before .before .before .fresh .ensures in (
+      f .1,
+      unit-said (a .before) (a .line .now) (a .body .now) (omega arith)
+          (c .before .before .before .before .before .before .before .before .four .ensures)
+          (c .before .before .before .before .before .before .before .four2 .ensures)
+          (c .before .before .before .before .before .before .four3 .ensures) (f .0)
+          (c .before .before .unit-line .ensures),
+    )
 
 pub unit-spec : {M : Type 1} → statement M
 unit-spec =

@@ -34,9 +34,11 @@ returns c =
     let mid = c .before .before .before .before .before .before .clear .last .0 in
     let new = c .before .before .copy .last .1 .1 .0 in
     first-joined (a .n) 0 m (storeOf []) old mid new
-    (all-bytes old (λ i. c .before .before .before .before .before .before .before .before .slice-known .given i .fits)) (all-bytes new (λ i. c .slice-known3 .given i .fits))
+    (all-bytes old (λ i. c .before .before .before .before .before .before .before .before .slice-known .given i .fits))
+    (all-bytes new (λ i. c .slice-known3 .given i .fits))
     (length-store []) (omega (arith, length-take (a .n) r)) (omega arith)
-    (first-nothing (a .n) old mid (omega arith) (c .before .before .before .before .before .before .clear .ensures)) (c .before .before .copy .ensures)
+    (first-nothing (a .n) old mid (omega arith) (c .before .before .before .before .before .before .clear .ensures))
+    (c .before .before .copy .ensures)
 
 pub hand-block-spec : {M : Type 1} → statement M
 hand-block-spec = tie.close (tie.spec add-clear mul-clear clear-requires copy-requires same-length returns)

@@ -30,7 +30,8 @@ returns c =
     let ho = c .before .before .before .before .before .before .hand-over in
     let new = c .before .before .copy .last .1 .1 .0 in
     first-joined (a .at + a .n) (a .at) m (a .store .now) old (ho .last .1 .1 .0) new
-    (all-bytes old (λ i. c .before .before .before .before .before .before .before .before .slice-known .given i .fits)) (all-bytes new (λ i. c .slice-known3 .given i .fits))
+    (all-bytes old (λ i. c .before .before .before .before .before .before .before .before .slice-known .given i .fits))
+    (all-bytes new (λ i. c .slice-known3 .given i .fits))
     (omega arith) (omega (arith, length-take (a .n) r)) (omega arith)
     (ap bitsOf (ho .ensures)) (c .before .before .copy .ensures)
 

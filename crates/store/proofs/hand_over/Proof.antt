@@ -9,7 +9,8 @@ use Rattle.store.proofs.hand_over.Statement.{statement}
 use Rattle.store.proofs.hand_over.Tie as tie
 
 abbrev Inv-loop : tie.InvT-loop
-Inv-loop store n message₀ whole i₀ message i = (i ≤ whole) × (length message ≡ length message₀) × (message ≡ paste message₀ 0 store i)
+Inv-loop store n message₀ whole i₀ message i =
+    (i ≤ whole) × (length message ≡ length message₀) × (message ≡ paste message₀ 0 store i)
 
 abbrev μ-loop : tie.MeasureT-loop
 μ-loop store n message₀ whole i₀ message i = 512 - i

@@ -18,7 +18,8 @@ returns c =
     let a = c .before .before .before .before .before .before .args in
     let r = drop (a .from) (bitsOf (a .s .now)) in
     let new = c .before .before .copy .last .1 .1 .0 in
-    joined-is (a .store .now) new (a .at) (take (a .n) r) (all-bytes new (λ i. c .slice-known2 .given i .fits)) (omega arith)
+    joined-is (a .store .now) new (a .at) (take (a .n) r) (all-bytes new (λ i. c .slice-known2 .given i .fits))
+    (omega arith)
     (omega (arith, length-take (a .n) r)) (c .before .before .copy .ensures)
 
 pub join-spec : {M : Type 1} → statement M

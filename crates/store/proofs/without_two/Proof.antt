@@ -1,5 +1,4 @@
 use mathlib.Core.Path.{_≡_, sym, ap₂, _∙_}
-use mathlib.Core.List.{[], _∷_}
 use Prim.Native.Nat.{ℕ, _-_}
 use native.Mathlib.Omega.{arith}
 use borrow.Author.Needs.{needs}
@@ -44,8 +43,9 @@ returns c =
     let g2 = c .before .before .get2 in
     let g3 = c .before .get3 in
     let g4 = c .get4 in
-    ap₂ (λ (x y : ℕ). x ∷ y ∷ [])
-    (side-by-side (a .at) (64 - a .at) (g1 .result) (g2 .result) (g1 .ensures .small) (fits-in (64 - a .at) (g2 .ensures .small) (omega arith)) (omega arith)
+    ap₂ (λ (x y : ℕ). record { high = x; low = y })
+    (side-by-side (a .at) (64 - a .at) (g1 .result) (g2 .result) (g1 .ensures .small)
+    (fits-in (64 - a .at) (g2 .ensures .small) (omega arith)) (omega arith)
     ∙ rw (g1 .ensures .is, g2 .ensures .is) (sym (first-half (a .at) b l (omega arith))))
     (side-by-side 32 32 (g3 .result) (g4 .result) (g3 .ensures .small) (g4 .ensures .small) (omega arith)
     ∙ rw (g3 .ensures .is, g4 .ensures .is) (sym (second-half (a .at) b l (omega arith))))

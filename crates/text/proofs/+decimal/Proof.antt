@@ -34,12 +34,16 @@ decimal-slice-write-out : (t : ℕ) → decimal-lts.Need-slice-write-out (
   decimal-below t,
   decimal.Post,
 ) (decimal-at t) decimal.Post
-decimal-slice-write-out t c = let a = c .before .before .args in omega (arith, c .before .before .pre .1, ap length (decimal-small (a .n) (omega arith)))
+decimal-slice-write-out t c =
+    let a = c .before .before .args in
+    omega (arith, c .before .before .pre .1, ap length (decimal-small (a .n) (omega arith)))
 
 decimal-add-result :
     (t : ℕ) →
     decimal-lts.Need-add-result (decimal-below t, decimal.Post) (decimal-at t) decimal.Post
-decimal-add-result t c = let a = c .before .before .args in omega (arith, c .before .before .pre .1, ap length (decimal-small (a .n) (omega arith)))
+decimal-add-result t c =
+    let a = c .before .before .args in
+    omega (arith, c .before .before .pre .1, ap length (decimal-small (a .n) (omega arith)))
 
 decimal-same-length :
     (t : ℕ) →
@@ -48,7 +52,9 @@ decimal-same-length t c = search needs
 
 decimal-returns :
     (t : ℕ) → decimal-lts.Need-returns (decimal-below t, decimal.Post) (decimal-at t) decimal.Post
-decimal-returns t c = let a = c .before .before .args in wrote-small (a .out .now) (a .at) (a .n) (omega arith) (c .before .before .pre .1)
+decimal-returns t c =
+    let a = c .before .before .args in
+    wrote-small (a .out .now) (a .at) (a .n) (omega arith) (c .before .before .pre .1)
 
 decimal-decimal-requires : (t : ℕ) → decimal-lts.Need-decimal-requires (
   decimal-below t,
@@ -59,10 +65,17 @@ decimal-decimal-requires t c κs =
     (omega (arith, s .pre .0), omega (arith, s .pre .1, decimal-length (s .args .n) (omega arith)))
 
 -- there is room for the last digit
-after : (t : ℕ) (c : decimal-lts.After-slice-known2 (decimal-below t, decimal.Post) (decimal-at t) decimal.Post) → c .before .before .decimal .result < length (c .before .before .decimal .last .0)
+after : (t : ℕ) (c : decimal-lts.After-slice-known2 (decimal-below t, decimal.Post) (decimal-at t) decimal.Post)
+    → c .before .before .decimal .result < length (c .before .before .decimal .last .0)
 after t c =
     let s = c .before .before .before .before .before .before in
-    omega (arith, s .pre .1, decimal-length (s .args .n) (omega arith), c .before .before .decimal .ensures .after, c .before .before .decimal .kept)
+    omega (
+      arith,
+      s .pre .1,
+      decimal-length (s .args .n) (omega arith),
+      c .before .before .decimal .ensures .after,
+      c .before .before .decimal .kept,
+    )
 
 decimal-cast-out-2 :
     (t : ℕ) →
@@ -95,7 +108,8 @@ decimal-returns-2 :
     decimal-lts.Need-returns-2 (decimal-below t, decimal.Post) (decimal-at t) decimal.Post
 decimal-returns-2 t c =
     let s = c .before .before .before .before .before .before in
-    wrote-large (s .args .out .now) (s .args .at) (s .args .n) (omega arith) (s .pre .1) (c .before .before .decimal .ensures)
+    wrote-large (s .args .out .now) (s .args .at) (s .args .n) (omega arith) (s .pre .1)
+    (c .before .before .decimal .ensures)
 
 pub +decimal-spec : {M : Type 1} → statement M
 +decimal-spec =

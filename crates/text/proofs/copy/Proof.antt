@@ -35,8 +35,11 @@ loop-less c = search needs
 loop-again : tie.Need-loop-again Inv-loop μ-loop
 loop-again c =
     let a = c .before .before .before .args in
-    let l = c .before .before .loop in
-    (omega arith, wrote-next (a .out .now) (a .at) (a .s .now) (l .i) (omega arith) (omega arith) (l .inv .1), simp length-set (l .inv .2))
+    let l = c .before .before .loop in (
+      omega arith,
+      wrote-next (a .out .now) (a .at) (a .s .now) (l .i) (omega arith) (omega arith) (l .inv .1),
+      simp length-set (l .inv .2),
+    )
 
 add-result : tie.Need-add-result Inv-loop μ-loop
 add-result c = search needs

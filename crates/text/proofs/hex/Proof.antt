@@ -9,7 +9,8 @@ use Rattle.text.proofs.hex.Statement.{statement}
 use Rattle.text.proofs.hex.Tie as tie
 
 abbrev Inv-loop : tie.InvT-loop
-Inv-loop out₀ at s next₀ i₀ out next i = (i ≤ length s) × (next ≡ at + 2 * i) × Wrote out₀ at (hexOf (take i s)) out next × (length out ≡ length out₀)
+Inv-loop out₀ at s next₀ i₀ out next i =
+    (i ≤ length s) × (next ≡ at + 2 * i) × Wrote out₀ at (hexOf (take i s)) out next × (length out ≡ length out₀)
 
 abbrev μ-loop : tie.MeasureT-loop
 μ-loop out₀ at s next₀ i₀ out next i = length s - i
@@ -50,7 +51,8 @@ loop-again c =
     let l = c .before .before .before .before .loop in (
       omega arith,
       omega arith,
-      rw (c .before .hex-digit .ensures, c .hex-digit2 .ensures) (wrote-byte (a .out .now) (a .at) (a .s .now) (l .i) (omega arith) (omega arith) (l .inv .2)),
+      rw (c .before .hex-digit .ensures, c .hex-digit2 .ensures)
+          (wrote-byte (a .out .now) (a .at) (a .s .now) (l .i) (omega arith) (omega arith) (l .inv .2)),
       simp length-set (l .inv .3),
     )
 

@@ -10,7 +10,8 @@ use Rattle.text.proofs.numbers.Statement.{statement}
 use Rattle.text.proofs.numbers.Tie as tie
 
 abbrev Inv-loop : tie.InvT-loop
-Inv-loop out₀ at ns next₀ i₀ out next i = (i ≤ length ns) × (next ≤ at + 21 * i) × Wrote out₀ at (spaced (take i ns)) out next × (length out ≡ length out₀)
+Inv-loop out₀ at ns next₀ i₀ out next i =
+    (i ≤ length ns) × (next ≤ at + 21 * i) × Wrote out₀ at (spaced (take i ns)) out next × (length out ≡ length out₀)
 
 abbrev μ-loop : tie.MeasureT-loop
 μ-loop out₀ at ns next₀ i₀ out next i = length ns - i

@@ -31,7 +31,10 @@ unfolding readContinuation
 returns-2 c =
     let s = c .before .before .before .before .before .args .s .now in
     c .refused2 .ensures
-    ∙ rw (eq-eqb (length s) 34 (c .before .before .before .if1 .left), ne-eqb (field 268 4 (bitsOf s)) 0 (rw (c .before .before .get8 .ensures .is) at (c .before .if2 .taken))) refl
+    ∙ rw (
+      eq-eqb (length s) 34 (c .before .before .before .if1 .left),
+      ne-eqb (field 268 4 (bitsOf s)) 0 (rw (c .before .before .get8 .ensures .is) at (c .before .if2 .taken)),
+    ) refl
 
 get8-requires-2 : tie.Need-get8-requires-2
 get8-requires-2 c κs = search needs
@@ -47,7 +50,8 @@ returns-3 c =
     c .refused3 .ensures
     ∙ rw (
       eq-eqb (length s) 34 (c .before .before .before .before .before .if1 .left),
-      eq-eqb (field 268 4 b) 0 (sym (c .before .before .before .before .get8 .ensures .is) ∙ c .before .before .before .if2 .left),
+      eq-eqb (field 268 4 b) 0
+          (sym (c .before .before .before .before .get8 .ensures .is) ∙ c .before .before .before .if2 .left),
       ne-eqb (field 0 2 b) 1 (rw (c .before .before .get82 .ensures .is) at (c .before .if3 .taken)),
     ) refl
 
@@ -72,21 +76,38 @@ refused-requires-4 c κs = search needs
 returns-4 : tie.Need-returns-4
 unfolding readContinuation
 returns-4 c =
-    let s = c .before .before .before .before .before .before .before .before .before .before .before .before .args .s .now in
+    let s =
+    c .before .before .before .before .before .before .before .before .before .before .before .before .args .s .now in
     let b = bitsOf s in
     c .refused4 .ensures
     ∙ rw (
-      eq-eqb (length s) 34 (c .before .before .before .before .before .before .before .before .before .before .if1 .left),
-      eq-eqb (field 268 4 b) 0 (sym (c .before .before .before .before .before .before .before .before .before .get8 .ensures .is) ∙ c .before .before .before .before .before .before .before .before .if2 .left),
-      eq-eqb (field 0 2 b) 1 (sym (c .before .before .before .before .before .before .before .get82 .ensures .is) ∙ c .before .before .before .before .before .before .if3 .left),
-      found-nothing 4 (blockMessage b) (rw (c .before .before .before .before .get84 .ensures .is) at (sym (c .before .before .before .sdu-end .ensures) ∙ c .before .enum-told .given .1)),
+      eq-eqb (length s) 34
+          (c .before .before .before .before .before .before .before .before .before .before .if1 .left),
+      eq-eqb (field 268 4 b) 0
+          (sym (c .before .before .before .before .before .before .before .before .before .get8 .ensures .is)
+          ∙ c .before .before .before .before .before .before .before .before .if2 .left),
+      eq-eqb (field 0 2 b) 1
+          (sym (c .before .before .before .before .before .before .before .get82 .ensures .is)
+          ∙ c .before .before .before .before .before .before .if3 .left),
+      found-nothing 4 (blockMessage b)
+          (rw (c .before .before .before .before .get84 .ensures .is) at
+          (sym (c .before .before .before .sdu-end .ensures) ∙ c .before .enum-told .given .1)),
     ) refl
 
 -- where the message ends
-ends : (c : tie.After-known-told) → let o = blockMessage (bitsOf (c .before .before .before .before .before .before .before .before .before .before .before .before .args .s .now)) in (isThere o ≡ true) × (c .before .end .given .0 .0 ≡ 4 + length (bitsIn o))
+ends : (c : tie.After-known-told) → let o =
+    blockMessage
+    (bitsOf
+    (c .before .before .before .before .before .before .before .before .before .before .before .before .args .s
+    .now)) in
+    (isThere o ≡ true) × (c .before .end .given .0 .0 ≡ 4 + length (bitsIn o))
 ends c =
-    found-some 4 (c .before .end .given .0 .0) (blockMessage (bitsOf (c .before .before .before .before .before .before .before .before .before .before .before .before .args .s .now)))
-    (rw (c .before .before .before .before .get84 .ensures .is) at (sym (c .before .before .before .sdu-end .ensures) ∙ c .before .end .given .1))
+    found-some 4 (c .before .end .given .0 .0)
+    (blockMessage
+    (bitsOf
+    (c .before .before .before .before .before .before .before .before .before .before .before .before .args .s .now)))
+    (rw (c .before .before .before .before .get84 .ensures .is) at
+    (sym (c .before .before .before .sdu-end .ensures) ∙ c .before .end .given .1))
 
 sub-t5 : tie.Need-sub-t5
 sub-t5 c = omega (arith, ends c)
@@ -94,14 +115,20 @@ sub-t5 c = omega (arith, ends c)
 returns-5 : tie.Need-returns-5
 unfolding readContinuation
 returns-5 c =
-    let s = c .before .before .before .before .before .before .before .before .before .before .before .before .args .s .now in
+    let s =
+    c .before .before .before .before .before .before .before .before .before .before .before .before .args .s .now in
     let b = bitsOf s in
     let e = ends c in
     let n : c .before .end .given .0 .0 - 4 ≡ length (bitsIn (blockMessage b)) = omega arith in
     rw (
-      eq-eqb (length s) 34 (c .before .before .before .before .before .before .before .before .before .before .if1 .left),
-      eq-eqb (field 268 4 b) 0 (sym (c .before .before .before .before .before .before .before .before .before .get8 .ensures .is) ∙ c .before .before .before .before .before .before .before .before .if2 .left),
-      eq-eqb (field 0 2 b) 1 (sym (c .before .before .before .before .before .before .before .get82 .ensures .is) ∙ c .before .before .before .before .before .before .if3 .left),
+      eq-eqb (length s) 34
+          (c .before .before .before .before .before .before .before .before .before .before .if1 .left),
+      eq-eqb (field 268 4 b) 0
+          (sym (c .before .before .before .before .before .before .before .before .before .get8 .ensures .is)
+          ∙ c .before .before .before .before .before .before .before .before .if2 .left),
+      eq-eqb (field 0 2 b) 1
+          (sym (c .before .before .before .before .before .before .before .get82 .ensures .is)
+          ∙ c .before .before .before .before .before .before .if3 .left),
       e .0,
       n,
       c .before .before .before .before .before .get83 .ensures .is,

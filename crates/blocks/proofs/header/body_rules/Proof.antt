@@ -1,24 +1,16 @@
 use Rattle.bits.proofs.Tests.{tests}
+use borrow.Author.Needs.{needs}
 use Rattle.blocks.proofs.header.body_rules.Statement.{statement}
 use Rattle.blocks.proofs.header.body_rules.Tie as tie
 
 returns : tie.Need-returns
 returns c = search tests
 
+tail-rules-requires : tie.Need-tail-rules-requires
+tail-rules-requires c κs = search needs
+
 returns-2 : tie.Need-returns-2
-returns-2 c = search tests
-
-returns-3 : tie.Need-returns-3
-returns-3 c = search tests
-
-returns-4 : tie.Need-returns-4
-returns-4 c = search tests
-
-returns-5 : tie.Need-returns-5
-returns-5 c = search tests
-
-returns-6 : tie.Need-returns-6
-returns-6 c = search tests
+returns-2 c = search (tests, ← c .tail-rules .ensures)
 
 pub body-rules-spec : {M : Type 1} → statement M
-body-rules-spec = tie.close (tie.spec returns returns-2 returns-3 returns-4 returns-5 returns-6)
+body-rules-spec = tie.close (tie.spec returns tail-rules-requires returns-2)

@@ -29,20 +29,32 @@ refused-requires-2 c κs = search needs
 
 returns-2 : tie.Need-returns-2
 returns-2 c =
-    let a = c .before .before .before .before .before .before .args in
-    c .refused2 .ensures ∙ body-refused (a .sync) (bitsOf (a .h .now)) (c .before .before .before .body-of .ensures) (c .before .before .body-rules .ensures) (c .before .if2 .taken)
+    let a = c .before .before .before .before .before .before .before .args in
+    let e = c .before .before .before .before .body-of in
+    c .refused2 .ensures
+    ∙ body-refused (a .sync) (bitsOf (a .h .now)) (e .ensures) (c .before .before .body-rules .ensures)
+    (c .before .if2 .taken)
 
 -- what the rules have shown
-passed : (c : tie.Else2) → Held (bitsOf (c .before .before .before .before .before .args .h .now)) (c .before .before .body-of .result)
-passed c = held (bitsOf (c .before .before .before .before .before .args .h .now)) (c .before .before .body-of .ensures) (sym (c .before .body-rules .ensures) ∙ c .if2 .left)
+passed : (c : tie.Else2) → Held (c .before .before .before .body-of .result .tail)
+passed c =
+    let b = bitsOf (c .before .before .before .before .before .before .args .h .now) in
+    held b (c .before .before .before .body-of .ensures) (sym (c .before .body-rules .ensures) ∙ c .if2 .left)
 
 -- where the message ends
-ends : (c : tie.After-known-told) → let e = c .before .before .before .before .before .before .body-of .result in
-    let o = messageOf e (bitsOf (c .before .before .before .before .before .before .before .before .before .args .h .now)) in
-    (isThere o ≡ true) × (c .before .end .given .0 .0 ≡ e .first + length (bitsIn o))
+ends : (c : tie.After-known-told)
+    → let e = c .before .before .before .before .before .before .before .body-of .result in
+    let o =
+    messageOf e
+    (bitsOf (c .before .before .before .before .before .before .before .before .before .before .args .h .now)) in
+    (isThere o ≡ true) × (c .before .end .given .0 .0 ≡ e .tail .first + length (bitsIn o))
 ends c =
-    let e = c .before .before .before .before .before .before .body-of .result in
-    found-some (e .first) (c .before .end .given .0 .0) (messageOf e (bitsOf (c .before .before .before .before .before .before .before .before .before .args .h .now))) (sym (c .before .before .before .sdu-end .ensures) ∙ c .before .end .given .1)
+    let e = c .before .before .before .before .before .before .before .body-of .result in
+    let o =
+    messageOf e
+    (bitsOf (c .before .before .before .before .before .before .before .before .before .before .args .h .now)) in
+    found-some (e .tail .first) (c .before .end .given .0 .0) o
+    (sym (c .before .before .before .sdu-end .ensures) ∙ c .before .end .given .1)
 
 sdu-end-requires : tie.Need-sdu-end-requires
 sdu-end-requires c κs = let k = passed c in omega arith
@@ -58,32 +70,33 @@ refused-requires-3 c κs = search needs
 
 returns-3 : tie.Need-returns-3
 returns-3 c =
-    let a = c .before .before .before .before .before .before .before .before .before .args in
-    let e = c .before .before .before .before .before .before .body-of .result in
+    let a = c .before .before .before .before .before .before .before .before .before .before .args in
+    let e = c .before .before .before .before .before .before .before .body-of in
     let b = bitsOf (a .h .now) in
+    let none =
+    sym (c .before .before .before .before .before .body-rules .ensures)
+    ∙ c .before .before .before .before .if2 .left in
+    let gone = sym (c .before .before .before .sdu-end .ensures) ∙ c .before .enum-told .given .1 in
     c .refused3 .ensures
-    ∙ body-eleven (a .sync) b (c .before .before .before .before .before .before .body-of .ensures) (sym (c .before .before .before .before .before .body-rules .ensures) ∙ c .before .before .before .before .if2 .left)
-    (found-nothing (e .first) (messageOf e b) (sym (c .before .before .before .sdu-end .ensures) ∙ c .before .enum-told .given .1))
+    ∙ body-eleven (a .sync) b (e .ensures) none (found-nothing (e .result .tail .first) (messageOf (e .result) b) gone)
 
-sub-get : tie.Need-sub-get
-sub-get c = let k = passed (c .before .before .before .before .before) in omega arith
+tail-fields-requires : tie.Need-tail-fields-requires
+tail-fields-requires c κs = let k = passed (c .before .before .before .before) in omega arith
 
-get-requires : tie.Need-get-requires
-get-requires c κs = let k = passed (c .before .before .before .before .before) in omega arith
-
-cast-t13 : tie.Need-cast-t13
-cast-t13 c = let k = passed (c .before .before .before .before .before .before .before .before .before) in omega arith
-
-sub-t10 : tie.Need-sub-t10
-sub-t10 c = omega (arith, ends (c .before .before .before .before .before .before))
+sub-t8 : tie.Need-sub-t8
+sub-t8 c = omega (arith, ends (c .before .before))
 
 returns-4 : tie.Need-returns-4
 returns-4 c =
-    let a = c .before .before .before .before .before .before .before .before .before .before .before .before .before .before .before .args in
-    let e = c .before .before .before .before .before .before .before .before .before .before .before .before .body-of .result in
-    let m = ends (c .before .before .before .before .before .before) in
-    body-answer (a .sync) (bitsOf (a .h .now)) (c .before .before .before .before .before .before .before .before .before .before .before .before .body-of .ensures) (sym (c .before .before .before .before .before .before .before .before .before .before .before .body-rules .ensures) ∙ c .before .before .before .before .before .before .before .before .before .before .if2 .left)
-    (c .before .before .before .before .get .result) (c .before .before .before .before .before .before .before .end .given .0 .0 - e .first) (c .before .before .before .before .get .ensures .is) (m .0) (omega arith)
+    let a = c .before .before .before .before .before .before .before .before .before .before .before .before .args in
+    let e = c .before .before .before .before .before .before .before .before .before .body-of in
+    let m = ends (c .before .before) in
+    let none =
+    sym (c .before .before .before .before .before .before .before .body-rules .ensures)
+    ∙ c .before .before .before .before .before .before .if2 .left in
+    let fields = c .before .tail-fields in
+    body-answer (a .sync) (bitsOf (a .h .now)) (e .ensures) none (fields .result)
+    (c .before .before .before .end .given .0 .0 - e .result .tail .first) (fields .ensures) (m .0) (omega arith)
 
 pub read-body-spec : {M : Type 1} → statement M
 read-body-spec =
@@ -100,8 +113,6 @@ read-body-spec =
     enum-told
     refused-requires-3
     returns-3
-    sub-get
-    get-requires
-    cast-t13
-    sub-t10
+    tail-fields-requires
+    sub-t8
     returns-4)

@@ -16,7 +16,8 @@ returns c = search (tests, c .last-one .ensures)
 returns-2 : tie.Need-returns-2
 returns-2 c =
     let a = c .before .before .args in
-    search (tests, whole-room (a .from) (a .to) (bitsOf (a .s .now)) (omega arith) (omega (arith, length-bitsOf (a .s .now))))
+    search
+    (tests, whole-room (a .from) (a .to) (bitsOf (a .s .now)) (omega arith) (omega (arith, length-bitsOf (a .s .now))))
 
 pub sdu-end-spec : {M : Type 1} → statement M
 sdu-end-spec = tie.close (tie.spec last-one-requires returns returns-2)

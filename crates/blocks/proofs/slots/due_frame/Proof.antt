@@ -1,4 +1,3 @@
-use native.Mathlib.Nat.{zero-add}
 use Rattle.bits.proofs.Tests.{tests}
 use Rattle.blocks.specs.Slots.{dueOf}
 use borrow.Author.Needs.{needs}
@@ -21,45 +20,12 @@ returns-4 : tie.Need-returns-4
 unfolding dueOf
 returns-4 c = search tests
 
-add-y : tie.Need-add-y
-add-y c = search needs
-
-add-y-2 : tie.Need-add-y-2
-add-y-2 c = search needs
-
-add-t9 : tie.Need-add-t9
-add-t9 c = search needs
+frame-of-requires : tie.Need-frame-of-requires
+frame-of-requires c κs = search needs
 
 returns-5 : tie.Need-returns-5
 unfolding dueOf
-returns-5 c = search (tests, zero-add)
-
-sub-t7 : tie.Need-sub-t7
-sub-t7 c = search needs
-
-add-t6 : tie.Need-add-t6
-add-t6 c = search needs
-
-add-t11 : tie.Need-add-t11
-add-t11 c = search needs
-
-returns-6 : tie.Need-returns-6
-unfolding dueOf
-returns-6 c = search tests
+returns-5 c = search (tests, ← c .frame-of .ensures)
 
 pub due-frame-spec : {M : Type 1} → statement M
-due-frame-spec =
-    tie.close
-    (tie.spec
-    returns
-    returns-2
-    returns-3
-    returns-4
-    add-y
-    add-y-2
-    add-t9
-    returns-5
-    sub-t7
-    add-t6
-    add-t11
-    returns-6)
+due-frame-spec = tie.close (tie.spec returns returns-2 returns-3 returns-4 frame-of-requires returns-5)

@@ -45,7 +45,8 @@ returns-3 c =
     let a = c .before .before .before .before .before .before .before .before .before .before .before .before .args in
     c .sync-rules .ensures
     ∙ rw (
-      eq-eqb (length (a .s .now)) 8 (c .before .before .before .before .before .before .before .before .before .if1 .left),
+      eq-eqb (length (a .s .now)) 8
+          (c .before .before .before .before .before .before .before .before .before .if1 .left),
       eq-eqb (length (a .h .now)) 16 (c .before .before .before .before .before .before .before .before .if2 .left),
       c .before .before .before .before .before .before .before .get8 .ensures .is,
       c .before .before .before .before .before .before .get82 .ensures .is,

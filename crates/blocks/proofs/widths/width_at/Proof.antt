@@ -1,6 +1,7 @@
+use Prim.Native.Nat.{_≤_}
 use native.Mathlib.Omega.{arith}
 use Rattle.bits.specs.Bits.{bitsOf}
-use Rattle.blocks.proofs.WidthLaws.{near-entry, added-le, width-read}
+use Rattle.blocks.proofs.WidthLaws.{Near, near-entry, added-le, width-read}
 use borrow.Author.Needs.{needs}
 use Rattle.blocks.proofs.widths.width_at.Statement.{statement}
 use Rattle.blocks.proofs.widths.width_at.Tie as tie
@@ -24,23 +25,23 @@ added-by-requires c κs = search needs
 cast-get8-2 : tie.Need-cast-get8-2
 cast-get8-2 c = search needs
 
+-- an entry's places, and what the first flag adds
+first-near : (c : tie.After-added-by) → Near (c .before .before .before .entry-of .result)
+first-near c =
+    near-entry (c .before .before .before .before .before .args .message) (c .before .before .before .entry-of .ensures)
+
+first-added : (c : tie.After-added-by) → c .added-by .result ≤ c .before .before .before .entry-of .result .adds
+first-added c =
+    added-le (c .before .get8 .result) (c .before .before .before .entry-of .result .adds) (c .added-by .ensures)
+
 add-get8-2 : tie.Need-add-get8-2
-add-get8-2 c =
-    let s = near-entry (c .before .before .before .before .before .before .args .message) (c .before .before .before .before .entry-of .ensures) in
-    let a = added-le (c .before .before .get8 .result) (c .before .before .before .before .entry-of .result .adds) (c .before .added-by .ensures) in
-    omega arith
+add-get8-2 c = let s = first-near (c .before) in let a = first-added (c .before) in omega arith
 
 add-get8-3 : tie.Need-add-get8-3
-add-get8-3 c =
-    let s = near-entry (c .before .before .before .before .before .before .args .message) (c .before .before .before .before .entry-of .ensures) in
-    let a = added-le (c .before .before .get8 .result) (c .before .before .before .before .entry-of .result .adds) (c .before .added-by .ensures) in
-    omega arith
+add-get8-3 c = let s = first-near (c .before) in let a = first-added (c .before) in omega arith
 
 get8-requires-2 : tie.Need-get8-requires-2
-get8-requires-2 c κs =
-    let s = near-entry (c .before .before .before .before .before .before .args .message) (c .before .before .before .before .entry-of .ensures) in
-    let a = added-le (c .before .before .get8 .result) (c .before .before .before .before .entry-of .result .adds) (c .before .added-by .ensures) in
-    omega arith
+get8-requires-2 c κs = let s = first-near (c .before) in let a = first-added (c .before) in omega arith
 
 added-by-requires-2 : tie.Need-added-by-requires-2
 added-by-requires-2 c κs = search needs
@@ -48,25 +49,37 @@ added-by-requires-2 c κs = search needs
 cast-result : tie.Need-cast-result
 cast-result c = search needs
 
+-- what the second adds
+second-added : (c : tie.After-added-by2)
+    → c .added-by2 .result ≤ c .before .before .before .before .before .before .entry-of .result .adds2
+second-added c =
+    added-le (c .before .get82 .result) (c .before .before .before .before .before .before .entry-of .result .adds2)
+    (c .added-by2 .ensures)
+
 add-result : tie.Need-add-result
 add-result c =
-    let s = near-entry (c .before .before .before .before .before .before .before .before .before .args .message) (c .before .before .before .before .before .before .before .entry-of .ensures) in
-    let a = added-le (c .before .before .before .before .before .get8 .result) (c .before .before .before .before .before .before .before .entry-of .result .adds) (c .before .before .before .before .added-by .ensures) in
-    let b = added-le (c .before .before .get82 .result) (c .before .before .before .before .before .before .before .entry-of .result .adds2) (c .before .added-by2 .ensures) in
+    let s = first-near (c .before .before .before .before) in
+    let a = first-added (c .before .before .before .before) in
+    let b = second-added (c .before) in
     omega arith
 
 add-result-2 : tie.Need-add-result-2
 add-result-2 c =
-    let s = near-entry (c .before .before .before .before .before .before .before .before .before .args .message) (c .before .before .before .before .before .before .before .entry-of .ensures) in
-    let a = added-le (c .before .before .before .before .before .get8 .result) (c .before .before .before .before .before .before .before .entry-of .result .adds) (c .before .before .before .before .added-by .ensures) in
-    let b = added-le (c .before .before .get82 .result) (c .before .before .before .before .before .before .before .entry-of .result .adds2) (c .before .added-by2 .ensures) in
+    let s = first-near (c .before .before .before .before) in
+    let a = first-added (c .before .before .before .before) in
+    let b = second-added (c .before) in
     omega arith
 
 returns : tie.Need-returns
 returns c =
     let a = c .before .before .before .before .before .before .before .before .before .args in
-    width-read (a .message) (a .at) (bitsOf (a .s .now)) (c .before .before .before .before .before .before .before .entry-of .result) (c .before .before .before .before .before .get8 .result) (c .before .before .before .before .added-by .result) (c .before .before .get82 .result) (c .before .added-by2 .result)
-    (c .before .before .before .before .before .before .before .entry-of .ensures) (c .before .before .before .before .before .get8 .ensures .is) (c .before .before .before .before .added-by .ensures) (c .before .before .get82 .ensures .is) (c .before .added-by2 .ensures)
+    let e = c .before .before .before .before .before .before .before .entry-of in
+    let first = c .before .before .before .before .before .get8 in
+    let second = c .before .before .get82 in
+    let one = c .before .before .before .before .added-by in
+    let two = c .before .added-by2 in
+    width-read (a .message) (a .at) (bitsOf (a .s .now)) (e .result) (first .result) (one .result) (second .result)
+    (two .result) (e .ensures) (first .ensures .is) (one .ensures) (second .ensures .is) (two .ensures)
 
 pub width-at-spec : {M : Type 1} → statement M
 width-at-spec =

@@ -12,7 +12,11 @@ no-plan-requires : tie.Need-no-plan-requires
 no-plan-requires c κs = search needs
 
 returns : tie.Need-returns
-returns c = let a = c .before .before .before .before .before .args in c .no-plan .ensures ∙ by-numbers (a .sync) (a .countdown) (a .fields) (a .n) (a .bytes) (a .lent) (c .before .before .number-rules .ensures) (c .before .if1 .taken)
+returns c =
+    let a = c .before .before .before .before .before .args in
+    c .no-plan .ensures
+    ∙ by-numbers (a .sync) (a .countdown) (a .fields) (a .n) (a .bytes) (a .lent)
+    (c .before .before .number-rules .ensures) (c .before .if1 .taken)
 
 address-rules-requires : tie.Need-address-rules-requires
 address-rules-requires c κs = search needs
@@ -23,7 +27,10 @@ no-plan-requires-2 c κs = search needs
 returns-2 : tie.Need-returns-2
 returns-2 c =
     let a = c .before .before .before .before .before .before .before .args in
-    c .no-plan2 .ensures ∙ by-to (a .sync) (a .countdown) (a .fields) (a .n) (a .bytes) (a .lent) (sym (c .before .before .before .before .number-rules .ensures) ∙ c .before .before .before .if1 .left) (c .before .before .address-rules .ensures) (c .before .if2 .taken)
+    c .no-plan2 .ensures
+    ∙ by-to (a .sync) (a .countdown) (a .fields) (a .n) (a .bytes) (a .lent)
+    (sym (c .before .before .before .before .number-rules .ensures) ∙ c .before .before .before .if1 .left)
+    (c .before .before .address-rules .ensures) (c .before .if2 .taken)
 
 address-rules-requires-2 : tie.Need-address-rules-requires-2
 address-rules-requires-2 c κs = search needs
@@ -34,7 +41,12 @@ no-plan-requires-3 c κs = search needs
 returns-3 : tie.Need-returns-3
 returns-3 c =
     let a = c .before .before .before .before .before .before .before .before .before .args in
-    c .no-plan3 .ensures ∙ by-from (a .sync) (a .countdown) (a .fields) (a .n) (a .bytes) (a .lent) (sym (c .before .before .before .before .before .before .number-rules .ensures) ∙ c .before .before .before .before .before .if1 .left) (sym (c .before .before .before .before .address-rules .ensures) ∙ c .before .before .before .if2 .left) (c .before .before .address-rules2 .ensures) (c .before .if3 .taken)
+    c .no-plan3 .ensures
+    ∙ by-from (a .sync) (a .countdown) (a .fields) (a .n) (a .bytes) (a .lent)
+    (sym (c .before .before .before .before .before .before .number-rules .ensures)
+    ∙ c .before .before .before .before .before .if1 .left)
+    (sym (c .before .before .before .before .address-rules .ensures) ∙ c .before .before .before .if2 .left)
+    (c .before .before .address-rules2 .ensures) (c .before .if3 .taken)
 
 run-fits-requires : tie.Need-run-fits-requires
 run-fits-requires c κs = search needs
@@ -45,7 +57,15 @@ no-plan-requires-4 c κs = search needs
 returns-4 : tie.Need-returns-4
 returns-4 c =
     let a = c .before .before .before .before .before .before .before .before .before .before .before .args in
-    c .no-plan4 .ensures ∙ by-run (a .sync) (a .countdown) (a .fields) (a .n) (a .bytes) (a .lent) (sym (c .before .before .before .before .before .before .before .before .number-rules .ensures) ∙ c .before .before .before .before .before .before .before .if1 .left) (sym (c .before .before .before .before .before .before .address-rules .ensures) ∙ c .before .before .before .before .before .if2 .left) (sym (c .before .before .before .before .address-rules2 .ensures) ∙ c .before .before .before .if3 .left) (sym (c .before .before .run-fits .ensures) ∙ not-true (c .before .before .run-fits .result) (c .before .if4 .taken))
+    c .no-plan4 .ensures
+    ∙ by-run (a .sync) (a .countdown) (a .fields) (a .n) (a .bytes) (a .lent)
+    (sym (c .before .before .before .before .before .before .before .before .number-rules .ensures)
+    ∙ c .before .before .before .before .before .before .before .if1 .left)
+    (sym (c .before .before .before .before .before .before .address-rules .ensures)
+    ∙ c .before .before .before .before .before .if2 .left)
+    (sym (c .before .before .before .before .address-rules2 .ensures) ∙ c .before .before .before .if3 .left)
+    (sym (c .before .before .run-fits .ensures)
+    ∙ not-true (c .before .before .run-fits .result) (c .before .if4 .taken))
 
 bits-lent-requires : tie.Need-bits-lent-requires
 bits-lent-requires c κs = search needs
@@ -55,11 +75,20 @@ no-plan-requires-5 c κs = search needs
 
 returns-5 : tie.Need-returns-5
 returns-5 c =
-    let a = c .before .before .before .before .before .before .before .before .before .before .before .before .before .args in
+    let a =
+    c .before .before .before .before .before .before .before .before .before .before .before .before .before .args in
     c .no-plan5 .ensures
-    ∙ by-lent (a .sync) (a .countdown) (a .fields) (a .n) (a .bytes) (a .lent) (sym (c .before .before .before .before .before .before .before .before .before .before .number-rules .ensures) ∙ c .before .before .before .before .before .before .before .before .before .if1 .left) (sym (c .before .before .before .before .before .before .before .before .address-rules .ensures) ∙ c .before .before .before .before .before .before .before .if2 .left) (sym (c .before .before .before .before .before .before .address-rules2 .ensures) ∙ c .before .before .before .before .before .if3 .left)
-    (sym (c .before .before .before .before .run-fits .ensures) ∙ not-false (c .before .before .before .before .run-fits .result) (c .before .before .before .if4 .left))
-    (sym (c .before .before .bits-lent .ensures) ∙ not-true (c .before .before .bits-lent .result) (c .before .if5 .taken))
+    ∙ by-lent (a .sync) (a .countdown) (a .fields) (a .n) (a .bytes) (a .lent)
+    (sym (c .before .before .before .before .before .before .before .before .before .before .number-rules .ensures)
+    ∙ c .before .before .before .before .before .before .before .before .before .if1 .left)
+    (sym (c .before .before .before .before .before .before .before .before .address-rules .ensures)
+    ∙ c .before .before .before .before .before .before .before .if2 .left)
+    (sym (c .before .before .before .before .before .before .address-rules2 .ensures)
+    ∙ c .before .before .before .before .before .if3 .left)
+    (sym (c .before .before .before .before .run-fits .ensures)
+    ∙ not-false (c .before .before .before .before .run-fits .result) (c .before .before .before .if4 .left))
+    (sym (c .before .before .bits-lent .ensures)
+    ∙ not-true (c .before .before .bits-lent .result) (c .before .if5 .taken))
 
 header-bits-requires : tie.Need-header-bits-requires
 header-bits-requires c κs = search needs
@@ -72,12 +101,24 @@ plan-of-requires c κs = search needs
 
 returns-6 : tie.Need-returns-6
 returns-6 c =
-    let a = c .before .before .before .before .before .before .before .before .before .before .before .before .before .before .before .args in
+    let a =
+    c .before .before .before .before .before .before .before .before .before .before .before .before .before .before
+    .before .args in
     c .plan-of .ensures
     ∙ rw (c .before .before .header-bits .ensures, c .before .entry-of .ensures)
-    (by-cut (a .sync) (a .countdown) (a .fields) (a .n) (a .bytes) (a .lent) (sym (c .before .before .before .before .before .before .before .before .before .before .before .before .number-rules .ensures) ∙ c .before .before .before .before .before .before .before .before .before .before .before .if1 .left) (sym (c .before .before .before .before .before .before .before .before .before .before .address-rules .ensures) ∙ c .before .before .before .before .before .before .before .before .before .if2 .left) (sym (c .before .before .before .before .before .before .before .before .address-rules2 .ensures) ∙ c .before .before .before .before .before .before .before .if3 .left)
-    (sym (c .before .before .before .before .before .before .run-fits .ensures) ∙ not-false (c .before .before .before .before .before .before .run-fits .result) (c .before .before .before .before .before .if4 .left))
-    (sym (c .before .before .before .before .bits-lent .ensures) ∙ not-false (c .before .before .before .before .bits-lent .result) (c .before .before .before .if5 .left)))
+    (by-cut (a .sync) (a .countdown) (a .fields) (a .n) (a .bytes) (a .lent)
+    (sym
+    (c .before .before .before .before .before .before .before .before .before .before .before .before .number-rules
+    .ensures) ∙ c .before .before .before .before .before .before .before .before .before .before .before .if1 .left)
+    (sym (c .before .before .before .before .before .before .before .before .before .before .address-rules .ensures)
+    ∙ c .before .before .before .before .before .before .before .before .before .if2 .left)
+    (sym (c .before .before .before .before .before .before .before .before .address-rules2 .ensures)
+    ∙ c .before .before .before .before .before .before .before .if3 .left)
+    (sym (c .before .before .before .before .before .before .run-fits .ensures)
+    ∙ not-false (c .before .before .before .before .before .before .run-fits .result)
+    (c .before .before .before .before .before .if4 .left))
+    (sym (c .before .before .before .before .bits-lent .ensures)
+    ∙ not-false (c .before .before .before .before .bits-lent .result) (c .before .before .before .if5 .left)))
 
 pub planned-spec : {M : Type 1} → statement M
 planned-spec =

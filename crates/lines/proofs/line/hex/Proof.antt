@@ -14,7 +14,9 @@ same-length : tie.Need-same-length
 same-length c = search needs
 
 returns : tie.Need-returns
-returns c = let a = c .before .before .before .args in (wrote-dash (a .out .now) (a .at) (a .s .now) (omega arith) (omega arith), omega arith)
+returns c =
+    let a = c .before .before .before .args in
+    (wrote-dash (a .out .now) (a .at) (a .s .now) (omega arith) (omega arith), omega arith)
 
 hex-requires : tie.Need-hex-requires
 hex-requires c κs = search needs
@@ -23,7 +25,11 @@ same-length-2 : tie.Need-same-length-2
 same-length-2 c = search needs
 
 returns-2 : tie.Need-returns-2
-returns-2 c = let a = c .before .before .before .before .before .before .before .args in (rw (hex-some (a .s .now) (λ e. omega arith)) (c .before .before .hex .ensures .0), omega (arith, c .before .before .hex .ensures .1))
+returns-2 c =
+    let a = c .before .before .before .before .before .before .before .args in (
+      rw (hex-some (a .s .now) (λ e. omega arith)) (c .before .before .hex .ensures .0),
+      omega (arith, c .before .before .hex .ensures .1),
+    )
 
 pub hex-spec : {M : Type 1} → statement M
 hex-spec =

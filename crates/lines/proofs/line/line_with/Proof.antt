@@ -21,7 +21,9 @@ add-result : tie.Need-add-result
 add-result c = search needs
 
 same-length : tie.Need-same-length
-same-length c = simp length-set (c .before .before .shown .kept .0 ∙ c .before .before .before .before .before .before .start .kept .0)
+same-length c =
+    simp length-set
+    (c .before .before .shown .kept .0 ∙ c .before .before .before .before .before .before .start .kept .0)
 
 returns : tie.Need-returns
 unfolding lineWith

@@ -20,7 +20,9 @@ shared-slice-read-if1 : tie.Need-shared-slice-read-if1 Inv-loop μ-loop
 shared-slice-read-if1 c = omega arith
 
 returns : tie.Need-returns Inv-loop μ-loop
-returns c = let l = c .before .before .before .loop in rest-other (c .before .before .before .before .args .s .now) (l .i) (omega arith) (c .if1 .taken) ∙ l .inv
+returns c =
+    let l = c .before .before .before .loop in
+    rest-other (c .before .before .before .before .args .s .now) (l .i) (omega arith) (c .if1 .taken) ∙ l .inv
 
 add-i : tie.Need-add-i Inv-loop μ-loop
 add-i c = omega arith
@@ -29,7 +31,9 @@ loop-less : tie.Need-loop-less Inv-loop μ-loop
 loop-less c = omega arith
 
 loop-again : tie.Need-loop-again Inv-loop μ-loop
-loop-again c = let l = c .before .before .before .loop in rest-same (c .before .before .before .before .args .s .now) (l .i) (omega arith) (c .if1 .left) ∙ l .inv
+loop-again c =
+    let l = c .before .before .before .loop in
+    rest-same (c .before .before .before .before .args .s .now) (l .i) (omega arith) (c .if1 .left) ∙ l .inv
 
 returns-2 : tie.Need-returns-2 Inv-loop μ-loop
 returns-2 c = let l = c .before .loop in rest-none (c .before .before .args .s .now) (l .i) (omega arith) ∙ l .inv

@@ -25,18 +25,26 @@ slice-aggregate-numbers : tie.Need-slice-aggregate-numbers
 slice-aggregate-numbers c = search needs
 
 numbers-requires : tie.Need-numbers-requires
-numbers-requires c κs = let h = c .before .before .before .before .before .hex in omega (arith, simp length-take at (h .ensures .1), simp length-set at (h .kept .0))
+numbers-requires c κs =
+    let h = c .before .before .before .before .before .hex in
+    omega (arith, simp length-take at (h .ensures .1), simp length-set at (h .kept .0))
 
 same-length : tie.Need-same-length
-same-length c = c .before .before .numbers .kept .0 ∙ (c .before .before .before .before .before .before .before .before .hex .kept .0 ∙ simp length-set)
+same-length c =
+    c .before .before .numbers .kept .0
+    ∙ (c .before .before .before .before .before .before .before .before .hex .kept .0 ∙ simp length-set)
 
 returns : tie.Need-returns
 returns c =
-    let a = c .before .before .before .before .before .before .before .before .before .before .before .before .before .args in
+    let a =
+    c .before .before .before .before .before .before .before .before .before .before .before .before .before .args in
     let h = c .before .before .before .before .before .before .before .before .hex in
     let n = c .before .before .numbers in
-    let l = simp length-take at (h .ensures .1) in
-    (wrote-shown (a .out .now) (a .at) (a .n) (a .s .now) (c .before .before .before .before .before .rest .ensures) (h .ensures .0) (n .ensures .0) (omega arith) (omega arith), omega (arith, n .ensures .1))
+    let l = simp length-take at (h .ensures .1) in (
+      wrote-shown (a .out .now) (a .at) (a .n) (a .s .now) (c .before .before .before .before .before .rest .ensures)
+          (h .ensures .0) (n .ensures .0) (omega arith) (omega arith),
+      omega (arith, n .ensures .1),
+    )
 
 pub shown-spec : {M : Type 1} → statement M
 shown-spec =

@@ -17,8 +17,11 @@ returns : tie.Need-returns
 returns c =
     let a = c .before .before .before .before .before .before .before .before .before .before .before .args in
     let p = c .before .before .before .before .before .before .copy in
-    let n = c .before .before .numbers in
-    (wrote-start (a .out .now) (a .word .now) (a .ns .now) (p .ensures) (n .ensures .0) (omega (arith, p .ensures .after)), omega (arith, n .ensures .1, p .ensures .after))
+    let n = c .before .before .numbers in (
+      wrote-start (a .out .now) (a .word .now) (a .ns .now) (p .ensures) (n .ensures .0)
+          (omega (arith, p .ensures .after)),
+      omega (arith, n .ensures .1, p .ensures .after),
+    )
 
 pub start-spec : {M : Type 1} → statement M
 start-spec = tie.close (tie.spec copy-requires numbers-requires same-length returns)

@@ -1,8 +1,6 @@
-use mathlib.Core.Path.{sym, _∙_}
-use Prim.Native.Nat.{_-_}
+use mathlib.Core.Path.{sym}
 use native.Mathlib.Omega.{arith}
 use lib.Seq.{length-take-le}
-use borrow.Author.Needs.{needs}
 use borrow.Author.Needs.{needs}
 use Rattle.printer.proofs.Printer.turn.Statement.{statement}
 use Rattle.printer.proofs.Printer.turn.Tie as tie
@@ -26,52 +24,25 @@ array-share-prefix-out : tie.Need-array-share-prefix-out
 array-share-prefix-out c = search needs
 
 slice-aggregate-write-all : tie.Need-slice-aggregate-write-all
-slice-aggregate-write-all c = sym (length-take-le (c .before .before .before .before .before .before .part .result .written) (c .before .before .before .before .before .before .part .last .1 .1 .1 .0) (c .before .before .before .before .before .before .part .ensures .0 .room))
+slice-aggregate-write-all c =
+    let p = c .before .before .before .before .before .part in
+    sym (length-take-le (p .result .written) (p .last .1 .1 .1 .0) (p .ensures .0 .room))
 
 write-all-requires : tie.Need-write-all-requires
 write-all-requires c κs = search needs
+
+goes-on-requires : tie.Need-goes-on-requires
+goes-on-requires c κs = search needs
 
 same-length : tie.Need-same-length
 same-length c = search needs
 
 returns : tie.Need-returns
-returns c = search needs
-
-same-length-2 : tie.Need-same-length-2
-same-length-2 c = c .before .before .before .before .before .before .before .before .before .before .part .kept .1 .0 ∙ c .before .before .before .before .before .before .before .before .before .before .before .before .before .before .before .before .more .kept .0
-
-returns-2 : tie.Need-returns-2
-returns-2 c = (c .before .before .before .before .before .before .before .before .before .before .part .ensures .0 .reached, omega (arith, c .before .before .before .before .before .before .before .before .before .before .before .before .before .before .before .before .more .ensures .1, c .before .before .before .before .before .before .before .before .before .before .part .kept .1 .0))
-
-slice-aggregate-write-all-2 : tie.Need-slice-aggregate-write-all-2
-slice-aggregate-write-all-2 c = search needs
-
-write-all-requires-2 : tie.Need-write-all-requires-2
-write-all-requires-2 c κs = search needs
-
-same-length-3 : tie.Need-same-length-3
-same-length-3 c = c .before .before .before .before .before .before .before .before .before .before .before .before .before .before .before .before .part .kept .1 .0 ∙ c .before .before .before .before .before .before .before .before .before .before .before .before .before .before .before .before .before .before .before .before .before .before .more .kept .0
-
-returns-3 : tie.Need-returns-3
-returns-3 c = (c .before .before .before .before .before .before .before .before .before .before .before .before .before .before .before .before .part .ensures .0 .reached, omega (arith, c .before .before .before .before .before .before .before .before .before .before .before .before .before .before .before .before .before .before .before .before .before .before .more .ensures .1, c .before .before .before .before .before .before .before .before .before .before .before .before .before .before .before .before .part .kept .1 .0))
-
-same-length-4 : tie.Need-same-length-4
-same-length-4 c = c .before .before .before .before .before .before .before .before .before .before .before .before .before .before .part .kept .1 .0 ∙ c .before .before .before .before .before .before .before .before .before .before .before .before .before .before .before .before .before .before .before .before .more .kept .0
-
-returns-4 : tie.Need-returns-4
-returns-4 c = (c .before .before .before .before .before .before .before .before .before .before .before .before .before .before .part .ensures .0 .reached, omega (arith, c .before .before .before .before .before .before .before .before .before .before .before .before .before .before .before .before .before .before .before .before .more .ensures .1, c .before .before .before .before .before .before .before .before .before .before .before .before .before .before .part .kept .1 .0))
-
-same-length-5 : tie.Need-same-length-5
-same-length-5 c = c .before .before .before .before .before .before .before .before .before .before .before .before .before .part .kept .1 .0 ∙ c .before .before .before .before .before .before .before .before .before .before .before .before .before .before .before .before .before .before .before .more .kept .0
-
-returns-5 : tie.Need-returns-5
-returns-5 c = (c .before .before .before .before .before .before .before .before .before .before .before .before .before .part .ensures .0 .reached, omega (arith, c .before .before .before .before .before .before .before .before .before .before .before .before .before .before .before .before .before .before .before .more .ensures .1, c .before .before .before .before .before .before .before .before .before .before .before .before .before .part .kept .1 .0))
-
-same-length-6 : tie.Need-same-length-6
-same-length-6 c = c .before .before .before .before .before .before .before .before .before .before .before .before .part .kept .1 .0 ∙ c .before .before .before .before .before .before .before .before .before .before .before .before .before .before .before .before .before .before .more .kept .0
-
-returns-6 : tie.Need-returns-6
-returns-6 c = (c .before .before .before .before .before .before .before .before .before .before .before .before .part .ensures .0 .reached, omega (arith, c .before .before .before .before .before .before .before .before .before .before .before .before .before .before .before .before .before .before .more .ensures .1, c .before .before .before .before .before .before .before .before .before .before .before .before .part .kept .1 .0))
+returns c =
+    let q = c .before .before .before .before .before .before .before .before in
+    let p = q .part in
+    let m = q .before .before .before .before .before .before .more in
+    (p .ensures .0 .reached, omega (arith, m .ensures .1, p .kept .1 .0))
 
 pub turn-spec : {M : Type 1} → statement M
 turn-spec =
@@ -85,17 +56,6 @@ turn-spec =
     array-share-prefix-out
     slice-aggregate-write-all
     write-all-requires
+    goes-on-requires
     same-length
-    returns
-    same-length-2
-    returns-2
-    slice-aggregate-write-all-2
-    write-all-requires-2
-    same-length-3
-    returns-3
-    same-length-4
-    returns-4
-    same-length-5
-    returns-5
-    same-length-6
-    returns-6)
+    returns)

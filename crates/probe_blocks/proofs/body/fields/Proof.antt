@@ -30,7 +30,13 @@ eight-requires c κs = search needs
 
 returns : tie.Need-returns
 unfolding fieldsIn
-returns c = rw (c .before .before .before .before .before .before .four .ensures, c .before .before .before .before .four2 .ensures, c .before .before .before .four3 .ensures, c .eight .ensures) refl
+returns c =
+    rw (
+      c .before .before .before .before .before .before .four .ensures,
+      c .before .before .before .before .four2 .ensures,
+      c .before .before .before .four3 .ensures,
+      c .eight .ensures,
+    ) refl
 
 pub fields-spec : {M : Type 1} → statement M
 fields-spec =

@@ -15,7 +15,8 @@ same-length c = search needs
 returns : tie.Need-returns
 returns c =
     let a = c .before .before .before .before .before .before .before .args in
-    block-said (a .line .now) (a .body .now) (c .before .before .before .before .read-continuation .ensures) (c .before .before .block .ensures)
+    block-said (a .line .now) (a .body .now) (c .before .before .before .before .read-continuation .ensures)
+    (c .before .before .block .ensures)
 
 pub block-spec : {M : Type 1} → statement M
 block-spec = tie.close (tie.spec read-continuation-requires block-requires same-length returns)

@@ -33,7 +33,12 @@ slice-aggregate-built : tie.Need-slice-aggregate-built
 slice-aggregate-built c = simp (length-take, length-replicate) (omega arith)
 
 built-requires : tie.Need-built-requires
-built-requires c κs = (omega arith, simp (length-take, length-replicate) (omega arith), omega (arith, c .before .before .before .before .before .before .before .pre))
+built-requires c κs = (
+  omega arith,
+  simp (length-take, length-replicate)
+      (omega arith),
+  omega (arith, c .before .before .before .before .before .before .before .pre),
+)
 
 same-length-2 : tie.Need-same-length-2
 same-length-2 c = search needs
@@ -42,7 +47,8 @@ returns-3 : tie.Need-returns-3
 returns-3 c =
     let a = c .before .before .before .before .before .before .before .before .before .before .before .args in
     let t = c .before .before .before .before .before .before .before .two-at .ensures in
-    build-said (a .body .now) (omega arith) (a .line .now) (omega arith) (rw t at (c .before .before .before .built .ensures))
+    build-said (a .body .now) (omega arith) (a .line .now) (omega arith)
+    (rw t at (c .before .before .before .built .ensures))
 
 pub build-spec : {M : Type 1} → statement M
 build-spec =

@@ -36,7 +36,9 @@ build-requires c κs = search needs
 
 build-requires-2 : tie.Need-build-requires-2
 build-requires-2 c κs =
-    let a = c .before .before .before .before .before .before .before .before .before .before .before .before .before .before .args in
+    let a =
+    c .before .before .before .before .before .before .before .before .before .before .before .before .before .before
+    .args in
     let k = c .before .before .before .before .build in
     let w : writtenBy (k .result) ≤ length (a .out .now) = rw (k .ensures .0) (written-inside _ _ _ _ _ _) in
     (omega (arith, k .kept), omega (arith, k .kept), omega arith)
@@ -49,9 +51,18 @@ same-length-2 c = search needs
 
 returns : tie.Need-returns
 returns c =
-    let a = c .before .before .before .before .before .before .before .before .before .before .before .before .before .before .before .before .before .args in
+    let a =
+    c .before .before .before .before .before .before .before .before .before .before .before .before .before .before
+    .before .before .before .args in
     let k = c .before .before .before .before .before .before .before .build in
-    built-said (a .body .now) (c .before .before .before .before .before .before .before .before .before .before .before .before .before .before .before .before .before .pre .0) (a .line .now) (a .out .now) (c .before .before .before .before .before .before .before .before .before .before .before .before .before .sync .ensures) (c .before .before .before .before .before .before .before .before .before .before .before .before .fields .ensures) (c .before .before .before .before .before .before .before .before .before .before .before .four .ensures) (k .ensures .0) (k .ensures .1) (c .before .before .build2 .ensures)
+    built-said (a .body .now)
+    (c .before .before .before .before .before .before .before .before .before .before .before .before .before .before
+    .before .before .before .pre .0) (a .line .now) (a .out .now)
+    (c .before .before .before .before .before .before .before .before .before .before .before .before .before .sync
+    .ensures)
+    (c .before .before .before .before .before .before .before .before .before .before .before .before .fields .ensures)
+    (c .before .before .before .before .before .before .before .before .before .before .before .four .ensures)
+    (k .ensures .0) (k .ensures .1) (c .before .before .build2 .ensures)
 
 pub built-spec : {M : Type 1} → statement M
 built-spec =

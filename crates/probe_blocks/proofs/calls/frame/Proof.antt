@@ -28,7 +28,8 @@ same-length c = search needs
 returns-2 : tie.Need-returns-2
 returns-2 c =
     let a = c .before .before .before .before .before .before .before .before .before .before .before .args in
-    frame-said (a .line .now) (a .body .now) (omega arith) (c .before .before .before .before .due-frame .ensures) (c .before .before .frame .ensures)
+    frame-said (a .line .now) (a .body .now) (omega arith) (c .before .before .before .before .due-frame .ensures)
+    (c .before .before .frame .ensures)
 
 pub frame-spec : {M : Type 1} → statement M
 frame-spec =

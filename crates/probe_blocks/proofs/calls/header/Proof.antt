@@ -31,7 +31,8 @@ add-end c = search needs
 returns-2 : tie.Need-returns-2
 returns-2 c =
     let a = c .before .before .before .before .before .before .before .before .args in
-    header-short (a .line .now) (a .body .now) (omega (arith, c .before .before .before .index .ensures .0, c .before .index2 .ensures .0))
+    header-short (a .line .now) (a .body .now)
+    (omega (arith, c .before .before .before .index .ensures .0, c .before .index2 .ensures .0))
 
 sub-read-header : tie.Need-sub-read-header
 sub-read-header c = search needs
@@ -62,11 +63,15 @@ same-length c = search needs
 
 returns-3 : tie.Need-returns-3
 returns-3 c =
-    let a = c .before .before .before .before .before .before .before .before .before .before .before .before .before .before .before .args in
+    let a =
+    c .before .before .before .before .before .before .before .before .before .before .before .before .before .before
+    .before .args in
     let s = c .before .before .before .before .before .before .before .before .before .before .index in
     let h = c .before .before .before .before .before .before .before .before .index2 in
     let e : s .result ≡ getD (a .body .now) 0 0 = s .ensures .0 in
-    header-said (a .line .now) (a .body .now) (2 + s .result) (2 + s .result + h .result) (ap (λ (n : ℕ). 2 + n) e) (ap (λ (n : ℕ). 2 + s .result + n) (h .ensures .0)) (omega arith) (c .before .before .before .before .read-header .ensures) (c .before .before .header .ensures)
+    header-said (a .line .now) (a .body .now) (2 + s .result) (2 + s .result + h .result) (ap (λ (n : ℕ). 2 + n) e)
+    (ap (λ (n : ℕ). 2 + s .result + n) (h .ensures .0)) (omega arith)
+    (c .before .before .before .before .read-header .ensures) (c .before .before .header .ensures)
 
 pub header-spec : {M : Type 1} → statement M
 header-spec =

@@ -18,7 +18,9 @@ same-length : tie.Need-same-length
 same-length c = search needs
 
 returns : tie.Need-returns
-returns c = rw (c .before .before .before .before .before .before .header-numbers .ensures) at (c .before .before .line-of .ensures)
+returns c =
+    rw (c .before .before .before .before .before .before .header-numbers .ensures) at
+    (c .before .before .line-of .ensures)
 
 pub header-spec : {M : Type 1} → statement M
 header-spec =

@@ -1,46 +1,76 @@
-use mathlib.Core.Path.{refl}
+use Rattle.receiver.proofs.TellLaws.{single-tells, joined-tells, plain-tells}
 use native.Mathlib.Omega.{arith}
-use borrow.Author.Tests.{eq-eqb, ne-eqb}
+use mathlib.Core.Path.{refl}
 use borrow.Author.Needs.{needs}
 use Rattle.receiver.proofs.answer.told.Statement.{statement}
 use Rattle.receiver.proofs.answer.told.Tie as tie
 
+mark-requires : tie.Need-mark-requires
+mark-requires c κs = search needs
+
 hand-block-requires : tie.Need-hand-block-requires
-hand-block-requires c κs = let p = c .before .before .before .before .before .before .pre in let e = c .before .if1 .taken in let q = p .1 in (p .2, omega arith, p .3 (omega arith))
+hand-block-requires c κs =
+    let p = c .before .before .before .before .before .before .before .pre in
+    (p .3, omega (arith, p .2), p .4 (omega (arith, c .before .if1 .taken)))
 
 same-length : tie.Need-same-length
 same-length c = search needs
 
 returns : tie.Need-returns
-returns c = let e = eq-eqb _ 1 (c .before .before .before .before .before .if1 .taken) in (rw e refl, rw e (c .before .before .before .hand-block .ensures))
+returns c =
+    let a = c .before .before .before .before .before .before .before .before .before .before .before .args in
+    let p = c .before .before .before .before .before .before .before .before .before .before .before .pre in
+    λ j s e.
+    single-tells (a .x) (a .blocks .now) (p .3) (a .joining) j (a .v .dropped)
+    (c .before .before .before .before .before .before .before .mark .ensures) (a .message .now)
+    (c .before .before .before .before .before .if1 .taken) (omega (arith, p .2))
+    (c .before .before .before .hand-block .ensures)
 
 hand-joined-requires : tie.Need-hand-joined-requires
-hand-joined-requires c κs = let p = c .before .before .before .before .before .before .before .before .pre in let e = c .before .if2 .taken in (p .2, p .1, p .0, p .3 (omega arith))
+hand-joined-requires c κs =
+    let p = c .before .before .before .before .before .before .before .before .before .pre in
+    (p .3, p .2, p .1, p .4 (omega (arith, c .before .if2 .taken)))
 
-add-t15 : tie.Need-add-t15
-add-t15 c = search needs
+add-t17 : tie.Need-add-t17
+add-t17 c = search needs
 
 same-length-2 : tie.Need-same-length-2
 same-length-2 c = search needs
 
 returns-2 : tie.Need-returns-2
-returns-2 c = let e = ne-eqb _ 1 (c .before .before .before .before .before .before .before .if1 .left) in let f = eq-eqb _ 2 (c .before .before .before .before .before .if2 .taken) in (rw (e, f) refl, rw (e, f) (c .before .before .before .hand-joined .ensures))
+returns-2 c =
+    let a =
+    c .before .before .before .before .before .before .before .before .before .before .before .before .before .args in
+    let p =
+    c .before .before .before .before .before .before .before .before .before .before .before .before .before .pre in
+    λ j s e.
+    joined-tells (a .x) (a .blocks .now) (p .3) (a .joining) j (a .v .dropped)
+    (c .before .before .before .before .before .before .before .before .before .mark .ensures) (a .message .now)
+    (c .before .before .before .before .before .if2 .taken) s e (p .2)
+    (c .before .before .before .hand-joined .ensures)
 
 plain-requires : tie.Need-plain-requires
 plain-requires c κs = search needs
 
 returns-3 : tie.Need-returns-3
-returns-3 c = let e = ne-eqb _ 1 (c .before .before .before .if1 .left) in let f = ne-eqb _ 2 (c .before .if2 .left) in (rw (c .plain .ensures, e, f) refl, rw (e, f) refl)
+returns-3 c =
+    let a = c .before .before .before .before .before .before .before .before .before .args in
+    let p = c .before .before .before .before .before .before .before .before .before .pre in
+    λ j s e.
+    plain-tells (a .x) (a .blocks .now) (p .3) (a .joining) j (a .v .dropped)
+    (c .before .before .before .before .before .mark .ensures) (a .message .now)
+    (c .before .before .before .if1 .left) (c .before .if2 .left) (p .0) (c .plain .ensures) refl
 
 pub told-spec : {M : Type 1} → statement M
 told-spec =
     tie.close
     (tie.spec
+    mark-requires
     hand-block-requires
     same-length
     returns
     hand-joined-requires
-    add-t15
+    add-t17
     same-length-2
     returns-2
     plain-requires

@@ -8,7 +8,10 @@ use Rattle.reports.proofs.place.wane.Statement.{statement}
 use Rattle.reports.proofs.place.wane.Tie as tie
 
 returns : tie.Need-returns
-returns c = let a = c .before .before .args in let z : 0 ≡ a .again - 1 = omega arith in rw (eq-eqb (a .slot) 1 (c .before .if1 .taken)) z
+returns c =
+    let a = c .before .before .before .args in
+    let z : 0 ≡ a .again - 1 = omega arith in
+    rw (eq-eqb (a .q .slot) 1 (c .before .if1 .taken)) z
 
 sub-result : tie.Need-sub-result
 sub-result c = search needs

@@ -10,18 +10,30 @@ on-nothing-requires c κs = search needs
 returns : tie.Need-returns
 returns c = rw (c .before .on-nothing .ensures, not-true (c .before .before .args .meant) (c .if1 .taken)) refl
 
-on-requires : tie.Need-on-requires
-on-requires c κs = search needs
+verdict-requires : tie.Need-verdict-requires
+verdict-requires c κs = search needs
 
 returns-2 : tie.Need-returns-2
-returns-2 c = rw (c .on .ensures, c .before .before .before .on-nothing .ensures, not-false (c .before .before .before .before .args .meant) (c .before .before .if1 .left), c .before .if2 .taken) refl
+returns-2 c =
+    rw (
+      c .verdict .ensures,
+      c .before .before .before .on-nothing .ensures,
+      not-false (c .before .before .before .before .args .meant) (c .before .before .if1 .left),
+      c .before .if2 .taken,
+    ) refl
 
-on-requires-2 : tie.Need-on-requires-2
-on-requires-2 c κs = search needs
+verdict-requires-2 : tie.Need-verdict-requires-2
+verdict-requires-2 c κs = search needs
 
 returns-3 : tie.Need-returns-3
-returns-3 c = rw (c .on2 .ensures, c .before .before .before .on-nothing .ensures, not-false (c .before .before .before .before .args .meant) (c .before .before .if1 .left), c .before .if2 .left) refl
+returns-3 c =
+    rw (
+      c .verdict2 .ensures,
+      c .before .before .before .on-nothing .ensures,
+      not-false (c .before .before .before .before .args .meant) (c .before .before .if1 .left),
+      c .before .if2 .left,
+    ) refl
 
 pub on-unfragmented-spec : {M : Type 1} → statement M
 on-unfragmented-spec =
-    tie.close (tie.spec on-nothing-requires returns on-requires returns-2 on-requires-2 returns-3)
+    tie.close (tie.spec on-nothing-requires returns verdict-requires returns-2 verdict-requires-2 returns-3)

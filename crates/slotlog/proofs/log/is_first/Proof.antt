@@ -17,7 +17,12 @@ two-requires : tie.Need-two-requires
 two-requires c κs = search needs
 
 returns-2 : tie.Need-returns-2
-returns-2 c = rw (le-leb _ _ (c .before .before .before .before .if1 .left), sym (c .before .two .ensures), ne-eqb _ _ (c .if2 .taken)) refl
+returns-2 c =
+    rw (
+      le-leb _ _ (c .before .before .before .before .if1 .left),
+      sym (c .before .two .ensures),
+      ne-eqb _ _ (c .if2 .taken),
+    ) refl
 
 shared-slice-read-two-3 : tie.Need-shared-slice-read-two-3
 shared-slice-read-two-3 c = search needs
@@ -29,7 +34,13 @@ two-requires-2 : tie.Need-two-requires-2
 two-requires-2 c κs = search needs
 
 returns-3 : tie.Need-returns-3
-returns-3 c = rw (le-leb _ _ (c .before .before .before .before .before .before .before .if1 .left), sym (c .before .before .before .before .two .ensures), eq-eqb _ _ (c .before .before .before .if2 .left), sym (c .two2 .ensures)) refl
+returns-3 c =
+    rw (
+      le-leb _ _ (c .before .before .before .before .before .before .before .if1 .left),
+      sym (c .before .before .before .before .two .ensures),
+      eq-eqb _ _ (c .before .before .before .if2 .left),
+      sym (c .two2 .ensures),
+    ) refl
 
 pub is-first-spec : {M : Type 1} → statement M
 is-first-spec =

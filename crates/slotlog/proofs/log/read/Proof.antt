@@ -27,14 +27,27 @@ cast-length c = search needs
 
 returns-3 : tie.Need-returns-3
 unfolding nextIn
-returns-3 c = rw (ne-eqb _ _ (c .before .before .before .before .before .if1 .left), le-ltb _ _ (c .before .before .before .before .if2 .left), sym (c .before .two .ensures), lt-ltb _ _ (c .if3 .taken)) refl
+returns-3 c =
+    rw (
+      ne-eqb _ _ (c .before .before .before .before .before .if1 .left),
+      le-ltb _ _ (c .before .before .before .before .if2 .left),
+      sym (c .before .two .ensures),
+      lt-ltb _ _ (c .if3 .taken),
+    ) refl
 
 add-if4 : tie.Need-add-if4
 add-if4 c = search needs
 
 returns-4 : tie.Need-returns-4
 unfolding nextIn
-returns-4 c = rw (ne-eqb _ _ (c .before .before .before .before .before .before .if1 .left), le-ltb _ _ (c .before .before .before .before .before .if2 .left), sym (c .before .before .two .ensures), le-ltb _ _ (c .before .if3 .left), lt-ltb _ _ (c .if4 .taken)) refl
+returns-4 c =
+    rw (
+      ne-eqb _ _ (c .before .before .before .before .before .before .if1 .left),
+      le-ltb _ _ (c .before .before .before .before .before .if2 .left),
+      sym (c .before .before .two .ensures),
+      le-ltb _ _ (c .before .if3 .left),
+      lt-ltb _ _ (c .if4 .taken),
+    ) refl
 
 shared-slice-read-two-3 : tie.Need-shared-slice-read-two-3
 shared-slice-read-two-3 c = search needs
@@ -50,7 +63,15 @@ whole-requires c κs = search needs
 
 returns-5 : tie.Need-returns-5
 unfolding nextIn
-returns-5 c = rw (ne-eqb _ _ (c .before .before .before .before .before .before .before .before .before .before .if1 .left), le-ltb _ _ (c .before .before .before .before .before .before .before .before .before .if2 .left), sym (c .before .before .before .before .before .before .two .ensures), le-ltb _ _ (c .before .before .before .before .before .if3 .left), le-ltb _ _ (c .before .before .before .before .if4 .left), sym (c .before .two2 .ensures)) (c .whole .ensures)
+returns-5 c =
+    rw (
+      ne-eqb _ _ (c .before .before .before .before .before .before .before .before .before .before .if1 .left),
+      le-ltb _ _ (c .before .before .before .before .before .before .before .before .before .if2 .left),
+      sym (c .before .before .before .before .before .before .two .ensures),
+      le-ltb _ _ (c .before .before .before .before .before .if3 .left),
+      le-ltb _ _ (c .before .before .before .before .if4 .left),
+      sym (c .before .two2 .ensures),
+    ) (c .whole .ensures)
 
 pub read-spec : {M : Type 1} → statement M
 read-spec =

@@ -11,13 +11,20 @@ slice-reshare-prefix-over : tie.Need-slice-reshare-prefix-over
 slice-reshare-prefix-over c = search needs
 
 slice-aggregate-over : tie.Need-slice-aggregate-over
-slice-aggregate-over c = sym (length-take-le (c .before .before .before .args .have) (c .before .before .before .args .room .now) (c .before .before .before .pre .1))
+slice-aggregate-over c =
+    sym
+    (length-take-le (c .before .before .before .args .have) (c .before .before .before .args .room .now)
+    (c .before .before .before .pre .1))
 
 over-requires : tie.Need-over-requires
 over-requires c κs = search needs
 
 to-start-requires : tie.Need-to-start-requires
-to-start-requires c κs = (omega (arith, c .before .before .before .over .ensures .inside, length-take-le (c .before .before .before .before .before .before .before .before .args .have) (c .before .before .before .before .before .before .before .before .args .room .now) (c .before .before .before .before .before .before .before .before .pre .1)), c .before .before .before .before .before .before .before .before .pre .1)
+to-start-requires c κs =
+    let s = c .before .before .before in
+    let a = s .before .before .before .before .before in
+    let l = length-take-le (a .args .have) (a .args .room .now) (a .pre .1) in
+    (omega (arith, s .over .ensures .inside, l), a .pre .1)
 
 same-length : tie.Need-same-length
 same-length c = search needs
@@ -27,10 +34,14 @@ same-length-2 c = search needs
 
 returns : tie.Need-returns
 returns c =
-    let a = c .before .before .before .before .before .before .before .before .before .before .before .args in
-    let o = c .before .before .before .before .before .before .over in
-    let h : o .result .read ≤ a .have = omega (arith, o .ensures .inside, length-take-le (c .before .before .before .before .before .before .before .before .before .before .before .args .have) (c .before .before .before .before .before .before .before .before .before .before .before .args .room .now) (c .before .before .before .before .before .before .before .before .before .before .before .pre .1)) in
-    (o .ensures, h, left-at-start (a .room .now) (o .result .read) (a .have) h (c .before .before .before .before .before .before .before .before .before .before .before .pre .1) (c .before .before .to-start .ensures))
+    let s = c .before .before .before .before .before .before in
+    let o = s .over in
+    let q = s .before .before .before .before .before in
+    let a = q .args in
+    let l = length-take-le (a .have) (a .room .now) (q .pre .1) in
+    let h : o .result .read ≤ a .have = omega (arith, o .ensures .inside, l) in
+    let m = c .before .before .to-start .ensures in
+    (o .ensures, h, left-at-start (a .room .now) (o .result .read) (a .have) h (q .pre .1) m)
 
 pub part-spec : {M : Type 1} → statement M
 part-spec =

@@ -1,0 +1,4 @@
+pub mod Counting
+pub mod RuleLaws
+pub mod Readings
+pub mod ReadLaws
