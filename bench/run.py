@@ -20,6 +20,9 @@ import tempfile
 
 import tools
 
+sys.path.insert(0, os.path.join(tools.TOP, "tests"))
+import image  # noqa: E402, of tests/
+
 # The name of a case in measure.c; what a call of it is; the passes of the short and of the long run; whether the peer over libosmocore touches a bit.
 Case = collections.namedtuple("Case", "name title few many bits")
 CASES = [
@@ -107,6 +110,7 @@ HOW = {
     "size": [
         "Bytes of what the ten calls reach, by the sections of an object in which the linker left only that; without the C library. (a) has the same ten.",
         "Beside them what some of the calls reach alone, code and data together; they share functions, so these do not add up.",
+        "Of each function that stands in the library, those that call it: what is not in the list was copied into its callers.",
     ],
     "stack": [
         "Bytes below the caller that a call touches, with its return address and what is pushed for it: the driver paints 16384 bytes, makes the call, and looks how deep the",
@@ -234,6 +238,11 @@ def functions(file):
     return sorted(found, key=lambda pair: -pair[1])
 
 
+def times(names):
+    """Names in order, each with how often it is there."""
+    return ", ".join("%s%s" % (name, " (%d)" % count if count > 1 else "") for name, count in sorted(collections.Counter(names).items()))
+
+
 def size_lines(folder, library):
     def reached(calls, plain_calls, of):
         """What these calls reach: sections of the library's, and of (a)'s at -O2 and at -Os."""
@@ -251,7 +260,10 @@ def size_lines(folder, library):
     rows = [[name, *of, sum(of), "" if name == "library" else "%.2f" % (ours / sum(of))] for name, of in sizes]
     lines = table(["", "code", "read-only data", "data", "together", "library to it"], rows)
     lines += table(["reached alone by", "library", "(a) at -O2", "(a) at -Os", "library to -O2"], [[*row, "%.2f" % (row[1] / row[2])] for row in of_parts])
-    lines += table(["function of the library", "bytes"], functions(os.path.join(folder, "library-reached.o")))
+    library = os.path.join(folder, "library-reached.o")
+    callers = image.calls(library)
+    rows = [[name, size, times(callers.get(name, []))] for name, size in functions(library)]
+    lines += table(["function of the library", "bytes", "called from"], rows)
     ratio = ours / sum(sizes[1][1])
     return lines, [["size, at most %s of (a) at -O2" % OF_PLAIN, met(ratio <= OF_PLAIN), "%.2f: %d bytes to %d" % (ratio, ours, sum(sizes[1][1]))]]
 

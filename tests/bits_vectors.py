@@ -232,6 +232,15 @@ def lengths(chance):
                 yield dict(call="put_all", x=x, s=s, t=parts([w // 2, w - w // 2], [chance.below(2 ** (w // 2)), chance.below(2 ** (w - w // 2))]))
 
 
+def rooms():
+    """The last 1 in every room of two bytes: a room of 1s, one of 0s, and one 1 at every place of it, between 1s."""
+    for x in range(17):
+        for y in range(x, 17):
+            zeros = "0" * (y - x)
+            for within in ["1" * (y - x), zeros] + [laid(zeros, place, "1") for place in range(y - x)]:
+                yield dict(call="last_one", x=x, y=y, s=h(hexed(laid("1" * 16, x, within))))
+
+
 def vectors():
     """Each record with what it shows and the line that answers it."""
     for shows, fields, line in HAND:
@@ -239,7 +248,8 @@ def vectors():
             sys.exit("%s: by hand %s, by the model %s" % (shows, line, answer(**fields)))
         yield shows, record(**fields), line
     chance = Chance(b"pierstrand bits")
-    for shows, made in (("an edge", edges()), ("at random", at_random(chance)), ("about eight bytes", lengths(chance))):
+    makers = [("an edge", edges()), ("at random", at_random(chance)), ("about eight bytes", lengths(chance))]
+    for shows, made in makers + [("a room of two bytes", rooms())]:
         for fields in made:
             yield "%s: %s" % (shows, fields), record(**fields), answer(**fields)
     # the last: its second run has a byte less than its head says

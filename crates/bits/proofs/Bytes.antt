@@ -1,11 +1,9 @@
 -- The laws of bytes and their bits. Assumes nothing.
 use mathlib.Core.Path.{_≡_, refl, sym, ap, ap₂, _∙_}
-use mathlib.Core.Bool.{Bool, true, false}
+use mathlib.Core.Bool.{Bool}
 use mathlib.Core.List.{List, [], _∷_, _++_, append-assoc, append-nil}
 use Prim.Native.Nat.{ℕ, zero, suc, _+_, _-_, _*_, _/_, _%_, _^_, _≤_, _<_}
 use native.Mathlib.Omega.{arith}
-use lib.Dec.{eqb, leb}
-use borrow.Author.Tests.{le-leb, lt-leb, eqb-true, eqb-false}
 use lib.ListN.{length, take, drop, getD, length-append, length-take, length-drop, take-append-drop}
 use lib.Bits.{bitOr, or-shifted-r}
 use lib.Seq.{length-slice, take-nil, drop-nil, slice, slice-cons, slice-empty, drop-drop, take-append-add}
@@ -13,7 +11,7 @@ use lib.Seq.{drop-append-add, take-at, drop-at}
 use lib.Pow.{shl-exact}
 use Rattle.bits.specs.Bits.{num, bitsN, bitsOf, bytesN, AllBytes}
 use Rattle.bits.proofs.Numbers.{length-bitsN, num-append, num-lt, num-bitsN, bitsN-is, num-take-lt, num-field}
-use Rattle.bits.proofs.Numbers.{take-of-drop}
+use Rattle.bits.proofs.Numbers.{take-of-drop, drop-of-take, num-shr}
 
 pub length-bitsOf : (s : List ℕ) → length (bitsOf s) ≡ 8 * length s
 unfolding bitsOf
@@ -140,6 +138,20 @@ num-byte s i h b =
       num-bitsN 8 (getD s i 0) b,
     ) refl
 
+-- its bits but for the last a of them
+pub num-byte-shr : (s : List ℕ) (i a : ℕ) → i < length s → getD s i 0 < 256 → a ≤ 8
+    → getD s i 0 / 2 ^ a ≡ num (slice (8 * i) (8 * suc i - a) (bitsOf s))
+num-byte-shr s i a h b l =
+    let e : 8 * suc i - a ≡ 8 * i + (8 - a) = omega arith in
+    rw (
+      e,
+      ← num-byte s i h b,
+      num-shr (bitsOf (slice i (suc i) s)) (8 - a) a (omega (arith, length-bitsOf-slice i (suc i) s h)),
+      bitsOf-slice i (suc i) s,
+      take-of-drop (8 - a) (8 * i) (8 * suc i) (bitsOf s) (omega arith),
+      drop-of-take (8 * i) (8 - a) (bitsOf s),
+    ) refl
+
 -- a field, from the bytes that hold it
 pub field-of : (s : List ℕ) (at w f t : ℕ) → 8 * f ≤ at → at + w ≤ 8 * t → t ≤ length s
     → take w (drop (at - 8 * f) (bitsOf (slice f t s))) ≡ take w (drop at (bitsOf s))
@@ -154,12 +166,3 @@ get-field s at w f t acc h k l o e =
     let n = length-bitsOf-slice f t s l in
     rw (e, num-field (bitsOf (slice f t s)) (at - 8 * f) w (8 * t - (at + w)) (omega arith), field-of s at w f t h k l)
     refl
-
--- ---- the lent bits
-
-rest-when : (t : Bool) (n bytes : ℕ) → eqb (n % 8) 0 ≡ t → n / 8 ≡ bytes → t ≡ leb n (8 * bytes)
-rest-when true n bytes e h = let z = eqb-true (n % 8) 0 e in sym (le-leb n (8 * bytes) (omega arith))
-rest-when false n bytes e h = let z = eqb-false (n % 8) 0 e in sym (lt-leb n (8 * bytes) (omega arith))
-
-pub rest-lent : (n bytes : ℕ) → n / 8 ≡ bytes → eqb (n % 8) 0 ≡ leb n (8 * bytes)
-rest-lent n bytes h = rest-when (eqb (n % 8) 0) n bytes refl h

@@ -4,17 +4,14 @@ use mathlib.Core.Bool.{Bool, true, false}
 use mathlib.Core.List.{List, [], _∷_, _++_, append-nil}
 use mathlib.Core.Option.{Option, none, some}
 use Prim.Native.Nat.{ℕ, zero, suc, _+_, _-_, _*_, _/_, _^_, _≤_, _<_}
-use native.Mathlib.Nat.{add-zero, one-mul, mul-one, sub-self, sub-zero, div-self}
+use native.Mathlib.Nat.{add-zero, one-mul, sub-self, sub-zero, div-self}
 use native.Mathlib.Omega.{arith}
-use lib.ListN.{length, take, drop, getD, replicate, length-take, take-append-drop, length-replicate, length-append}
-use lib.ListN.{replicate-append-replicate}
+use lib.ListN.{length, replicate, length-replicate, length-append, replicate-append-replicate}
 use lib.Pow.{pow-pos}
-use lib.Seq.{slice, slice-cons, length-slice, drop-cons, drop-append-le, take-take}
-use Rattle.bits.specs.Bits.{bit, num, bitsN, testBit, over}
-use Rattle.bits.specs.Fill.{before, strip, foundAt, fillBits, filled}
+use Rattle.bits.specs.Bits.{bitsN, testBit, over}
+use Rattle.bits.specs.Fill.{before, strip, fillBits, filled}
 use Rattle.bits.proofs.Numbers.{bitsN-high, bitsN-zero}
 use Rattle.bits.proofs.Over.{over-over}
-use Rattle.bits.specs.declared.Found.the-variants.{At}
 
 pub strip-none : (r : List Bool) → strip r ≡ none → strip (false ∷ r) ≡ none
 unfolding strip before
@@ -25,7 +22,7 @@ unfolding strip before
 strip-at [] r e = rw e refl
 strip-at (x ∷ xs) r e = rw (strip-at xs r e) refl
 
-strip-zeros : (n : ℕ) → strip (replicate n false) ≡ none
+pub strip-zeros : (n : ℕ) → strip (replicate n false) ≡ none
 unfolding strip before
 strip-zeros zero = refl
 strip-zeros (suc n) = strip-none (replicate n false) (strip-zeros n)
@@ -100,46 +97,6 @@ pub strip-lt : (b m : List Bool) → strip b ≡ some m → length m < length b
 unfolding strip
 strip-lt [] m e = let z : _≡_ {A = ℕ} 0 1 = cc in absurd (omega arith)
 strip-lt (x ∷ xs) m e = some-shorter x xs m (strip xs) (λ r s. strip-lt xs r s) e
-
--- ---- the search from the end
-
-pub bit-one : (b : Bool) → bit b ≡ 1 → b ≡ true
-unfolding bit
-bit-one true e = refl
-bit-one false e = absurd (omega arith)
-
-pub bit-other : (b : Bool) → (bit b ≡ 1 → ⊥) → b ≡ false
-unfolding bit
-bit-other true h = absurd (h refl)
-bit-other false h = refl
-
-pub num-one : (l : List Bool) (j : ℕ) → j < length l → num (take 1 (drop j l)) ≡ bit (getD l j false)
-unfolding num
-num-one l j h = rw (drop-cons l j false h, mul-one (bit (getD l j false)), add-zero (bit (getD l j false))) refl
-
-slice-split : (f j t : ℕ) (l : List Bool) → f ≤ j → j ≤ t → t ≤ length l → slice f t l ≡ slice f j l ++ slice j t l
-slice-split f j t l h k i =
-    ap (drop f) (sym (take-append-drop j (take t l)))
-    ∙ drop-append-le f (take j (take t l)) (slice j t l) (rw (length-take j (take t l), length-take t l) (omega arith))
-    ∙ ap (λ (x : List Bool). drop f x ++ slice j t l) (take-take j t l k)
-
-module _ (l : List Bool) (from to i j : ℕ) (e : i ≡ suc j) (f : from < i) (h : i ≤ to) (t : to ≤ length l)
-    (s : strip (slice i to l) ≡ none) where
-  cut : slice j to l ≡ getD l j false ∷ slice i to l
-  cut = slice-cons j to l false (omega arith) t ∙ ap (λ (n : ℕ). getD l j false ∷ slice n to l) (sym e)
-
-  pub last-more : (num (take 1 (drop j l)) ≡ 1 → ⊥) → strip (slice j to l) ≡ none
-  last-more n =
-      let z : getD l j false ≡ false = bit-other (getD l j false) (rw (num-one l j (omega arith)) at n) in
-      rw (cut, z) (strip-none (slice i to l) s)
-
-  pub last-found : num (take 1 (drop j l)) ≡ 1 → At j ≡ foundAt from (strip (slice from to l))
-  unfolding foundAt
-  last-found n =
-      let z : getD l j false ≡ true = bit-one (getD l j false) (rw (num-one l j (omega arith)) at n) in
-      let m : from + length (slice from j l) ≡ j = rw (length-slice from j l (omega arith)) (omega arith) in
-      rw (slice-split from j to l (omega arith) (omega arith) t, cut, z, strip-at (slice from j l) (slice i to l) s, m)
-      refl
 
 -- ---- fill, 56 bits at a time
 

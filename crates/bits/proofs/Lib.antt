@@ -4,6 +4,7 @@ pub mod Bytes
 pub mod Over
 pub mod Writing
 pub mod Filling
+pub mod Searching
 pub mod Packing
 pub mod Runs
 pub mod Tests

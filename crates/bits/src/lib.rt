@@ -33,13 +33,10 @@ pub fn bits_lent(n: usize, bytes: usize) -> bool
     ensures { λ r. ⌜ r ≡ leb n (8 * bytes) ⌝ }
 {
     let whole = n / 8;
-    if whole < bytes {
-        return true;
+    if n % 8 == 0 {
+        return whole <= bytes;
     }
-    if bytes < whole {
-        return false;
-    }
-    n % 8 == 0
+    whole < bytes
 }
 
 // The bytes from `first` up to `last`, eight at most, as one number, the first byte highest.
@@ -250,17 +247,33 @@ pub enum Found {
     Nothing,
 }
 
-// The last bit that is 1 of those from `from` up to `to`.
+// The last bit that is 1 of those from `from` up to `to`, byte by byte from the end. Of the last byte the bits after the
+// room are left out; in the first one a 1 before the room is none of its own. It calls itself where the room starts
+// within a byte, and so stands in the image once (decision 12).
 pub fn last_one(s: &[u8], from: usize, to: usize) -> Found
     requires { ⌜ Inside (length (now s)) from to ⌝ }
     ensures { λ r. ⌜ r ≡ foundAt from (strip (slice from to (bitsOf (now (s .entry))))) ⌝ }
 {
-    let mut i = to;
-    while from < i {
-        i -= 1;
-        if get_in_byte(s, i, 1) == 1 {
-            return Found::At(i);
+    let before = from & 7;
+    if before != 0 {
+        let Found::At(at) = last_one(s, from - before, to) else {
+            return Found::Nothing;
+        };
+        if at < from {
+            return Found::Nothing;
         }
+        return Found::At(at);
+    }
+    let first = from >> 3;
+    let mut i = (to + 7) >> 3;
+    let mut after = (i << 3) - to;
+    while first < i {
+        i -= 1;
+        let byte = s[i] >> after;
+        if byte != 0 {
+            return Found::At((i << 3) + 7 - after - (u8::trailing_zeros(byte) as usize));
+        }
+        after = 0;
     }
     Found::Nothing
 }

@@ -19,6 +19,11 @@ pub struct Address {
     pub ssi: u32,
 }
 
+impl Address {
+    // The type of an address element that is absent.
+    const ABSENT: u8 = 2;
+}
+
 // What a message's header says of it: addresses, MNI, message type, and the dependent elements as one run of bits with
 // its width.
 #[repr(C)]
@@ -83,7 +88,7 @@ fn refused(fault: u8) -> Header
 pub fn address_width(kind: u8) -> usize
     ensures { λ r. ⌜ r ≡ addressWidth kind ⌝ }
 {
-    if kind == 2 { 0 } else { 24 }
+    if kind == Address::ABSENT { 0 } else { 24 }
 }
 
 // An address as it stands, and the bit after it.
@@ -96,12 +101,18 @@ fn address_at(h: &[u8], at: usize) -> Addressed
     requires { ⌜ (at + 26 ≤ 8 * length (now h)) × (at ≤ 4096) ⌝ }
     ensures { λ r. ⌜ r ≡ addressAt at (bitsOf (now (h .entry))) ⌝ }
 {
-    let kind = bits::get8(h, at, 2);
-    let w = address_width(kind);
-    let ssi = bits::get32(h, at + 2, w);
+    let element = bits::get32(h, at, 26);
+    let kind = (element >> 24) as u8;
+    if kind == Address::ABSENT {
+        return Addressed {
+            address: Address { kind, ssi: 0 },
+            next: at + 2,
+        };
+    }
+    let ssi = element & 16777215;
     Addressed {
         address: Address { kind, ssi },
-        next: at + 2 + w,
+        next: at + 26,
     }
 }
 

@@ -2,12 +2,12 @@
 use mathlib.Core.Path.{_≡_, refl, sym, ap, _∙_, subst}
 use mathlib.Core.Bool.{Bool, true, false, cond}
 use mathlib.Core.List.{List}
-use Prim.Native.Nat.{ℕ, zero, suc, _+_, _-_, _≤_}
+use Prim.Native.Nat.{ℕ, zero, suc, _+_, _-_, _*_, _≤_}
 use native.Mathlib.Omega.{arith}
 use lib.Dec.{eqb}
 use lib.ListN.{length, take, drop, length-drop}
 use lib.Seq.{drop-drop, take-all}
-use borrow.Author.Tests.{eqb-true, eq-eqb, ne-eqb}
+use borrow.Author.Tests.{eqb-true, eqb-false, eq-eqb, ne-eqb}
 use Rattle.bits.specs.Bits.{bitsOf}
 use Rattle.bits.proofs.Bytes.{bitsOf-drop}
 use Rattle.store.specs.Store.{without}
@@ -18,6 +18,7 @@ use Rattle.blocks.specs.Continuation.{blockMessage, readContinuation}
 use Rattle.blocks.specs.declared.header.Header as read
 use Rattle.blocks.specs.declared.continuation.Continuation.{Continuation}
 use Rattle.history.specs.Slots.{Header, Heard, nothing, fragmented, unfragmented, frag, end, countdown-in, bits-in}
+use Rattle.history.specs.declared.What.{What}
 use Rattle.history.specs.declared.What.the-variants.{Nothing, Fragmented, Unfragmented, Frag, End}
 use Rattle.history.proofs.Bounds.{Sized}
 use Rattle.reports.specs.Lent.{Lent, lent, for-unit, rawOf, unfaulted, brought, headerIn, headerHeard, blockHeard}
@@ -65,20 +66,24 @@ module _ (s : Settings) (frame slot : ℕ) (b : List ℕ) where
       { raw = rawOf (drop 8 b); for-us = for-unit s (x .fields); fields = x .fields; bits = headerBits (drop 8 b) }
 
   -- as the code lends the two blocks
-  pub header-lent : {x : read.Header} → x ≡ readReported frame slot (take 8 b) (take (length b - 8) (drop 8 b))
-      → x ≡ headerIn report
-  header-lent e = e ∙ ap (readReported frame slot (take 8 b)) (rest-is b)
+  abbrev read-lent : read.Header
+  read-lent = readReported frame slot (take 8 b) (take (length b - 8) (drop 8 b))
 
-  pub raw-lent : (at : ℕ) {raw : Raw} → raw ≡ without at (take (length b - 8) (drop 8 b)) → raw ≡ without at (drop 8 b)
-  raw-lent at e = e ∙ ap (without at) (rest-is b)
+  header-lent : read-lent ≡ headerIn report
+  header-lent = ap (readReported frame slot (take 8 b)) (rest-is b)
 
   -- one with a fault
-  pub header-none : {x : read.Header} → x ≡ headerIn report → (x .fault ≡ 0 → ⊥)
+  pub header-none : {x : read.Header} → x ≡ read-lent → (x .fault ≡ 0 → ⊥)
       → Reads s report (headless Nothing (x .fault) 0 0)
   unfolding heard
-  header-none e n = rw e (nothing-reads s report (unfaulted-none (headerIn report .fault) _ (rw (← e) n)) refl)
+  header-none l n =
+      let e = l ∙ header-lent in
+      rw e (nothing-reads s report (unfaulted-none (headerIn report .fault) _ (rw (← e) n)) refl)
 
-  module _ {x : read.Header} (e : x ≡ headerIn report) (z : x .fault ≡ 0) (long : length b ≡ 24) where
+  module _ {x : read.Header} (l : x ≡ read-lent) (z : x .fault ≡ 0) (long : length b ≡ 24) where
+    e : x ≡ headerIn report
+    e = l ∙ header-lent
+
     well : WellRead (drop 8 b) x
     well =
         subst (WellRead (drop 8 b)) (sym e)
@@ -87,8 +92,11 @@ module _ (s : Settings) (frame slot : ℕ) (b : List ℕ) where
     pub first-small : x .first ≤ 124
     first-small = omega (arith, well .room)
 
-    pub counted : x .fragmented ≡ 1 → 1 ≤ x .count
-    counted q = omega (arith, well .counted, q)
+    pub flag-low : x .fragmented ≤ 1
+    flag-low = well .low
+
+    pub counted : x .fragmented ≤ x .count
+    counted = well .counted
 
     fault-none : faultIn report ≡ 0
     fault-none = ap (λ (y : read.Header). y .fault) (sym e) ∙ z
@@ -124,49 +132,33 @@ module _ (s : Settings) (frame slot : ℕ) (b : List ℕ) where
     unfolding heard
     heard-by f q = rw (← e, z, q) refl
 
-    raw-1 : x .fragmented ≡ 1 → rawOf (drop 8 b) ≡ without 16 (drop 8 b)
-    raw-1 q = rw (sym (well .flag), q) refl
-
-    raw-0 : (x .fragmented ≡ 1 → ⊥) → rawOf (drop 8 b) ≡ without 12 (drop 8 b)
-    raw-0 q = let f : x .fragmented ≡ 0 = omega (arith, well .low, q) in rw (sym (well .flag), f) refl
+    raw-lent : without (12 + 4 * x .fragmented) (take (length b - 8) (drop 8 b)) ≡ rawOf (drop 8 b)
+    raw-lent = rw (rest-is b, well .flag) refl
 
     -- one that reads well, fragmented or not
-    pub fragmented-reads : x .fragmented ≡ 1 → {meant : Bool} → meant ≡ for-unit s (x .fields) → {raw : Raw}
-        → raw ≡ without 16 (drop 8 b)
+    pub header-reads : {meant : Bool} → meant ≡ for-unit s (x .fields) → {raw : Raw}
+        → raw ≡ without (12 + 4 * x .fragmented) (take (length b - 8) (drop 8 b))
+        → (what : What) (f : Bool) → eqb (x .fragmented) 1 ≡ f → what ≡ cond f Fragmented Unfragmented
         → Reads s report
         (record {
-          what = Fragmented;
+          what = what;
           fault = 0;
           meant = meant;
           raw = raw;
           fields = x .fields;
-          more = x .count - 1;
+          more = x .count - x .fragmented;
           countdown = x .countdown;
           from = 64 + x .first;
           bits = x .bits;
         })
-    fragmented-reads q g t =
-        header-as (fragmented (header x) (x .count - 1) (x .countdown)) (heard-by true (eq-eqb (x .fragmented) 1 q))
-        refl refl
-        (rw (g, t, raw-1 q, well .sized) refl)
-
-    pub unfragmented-reads : (x .fragmented ≡ 1 → ⊥) → {meant : Bool} → meant ≡ for-unit s (x .fields) → {raw : Raw}
-        → raw ≡ without 12 (drop 8 b)
-        → Reads s report
-        (record {
-          what = Unfragmented;
-          fault = 0;
-          meant = meant;
-          raw = raw;
-          fields = x .fields;
-          more = 0;
-          countdown = x .countdown;
-          from = 64 + x .first;
-          bits = x .bits;
-        })
-    unfragmented-reads q g t =
-        header-as (unfragmented (header x) (x .countdown)) (heard-by false (ne-eqb (x .fragmented) 1 q)) refl refl
-        (rw (g, t, raw-0 q, well .sized) refl)
+    header-reads g t what true q k =
+        header-as (fragmented (header x) (x .count - 1) (x .countdown)) (heard-by true q) refl refl
+        (rw (k, g, t ∙ raw-lent, eqb-true (x .fragmented) 1 q, well .sized) refl)
+    header-reads g t what false q k =
+        let f : x .fragmented ≡ 0 = omega (arith, well .low, eqb-false (x .fragmented) 1 q) in
+        let n : x .count - x .fragmented ≡ 0 = omega (arith, well .alone f) in
+        header-as (unfragmented (header x) (x .countdown)) (heard-by false q) refl refl
+        (rw (k, g, t ∙ raw-lent, n, well .sized) refl)
 
 -- ---- a continuation
 

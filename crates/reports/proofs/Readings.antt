@@ -6,7 +6,7 @@ use Prim.Native.Nat.{ℕ, zero, suc, _+_, _-_, _*_, _^_, _≤_, _<_}
 use native.Mathlib.Omega.{arith}
 use lib.ListN.{length, take, drop}
 use lib.Seq.{slice, length-slice, take-at}
-use Rattle.bits.specs.Bits.{bitsOf, field}
+use Rattle.bits.specs.Bits.{num, bitsOf, field}
 use Rattle.bits.specs.Fill.{fillBits, filled}
 use Rattle.bits.proofs.Bytes.{length-bitsOf}
 use Rattle.bits.proofs.Numbers.{num-take-lt, fits-in, take-of-drop}
@@ -14,7 +14,8 @@ use Rattle.blocks.specs.Faults.{firstOf}
 use Rattle.blocks.specs.Sdu.{sduOf, isThere, bitsIn}
 use Rattle.blocks.specs.Sync.{syncOf, syncChecks}
 use Rattle.blocks.specs.declared.sync.Sync.{Sync}
-use Rattle.blocks.specs.Header.{fragmentedIn, bodyOf, messageOf, bodyChecks, placeRules, reportedFault, headerOf, answered}
+use Rattle.blocks.specs.Header.{fragmentedIn, bodyOf, messageOf, bodyChecks, placeRules, reportedFault, headerOf}
+use Rattle.blocks.specs.Header.{answered}
 use Rattle.blocks.specs.Header.{readReported}
 use Rattle.blocks.specs.Header.{readReported}
 use Rattle.blocks.specs.Continuation.{blockMessage, continuationChecks, continuationOf, readContinuation}
@@ -58,6 +59,7 @@ answer-given (suc n) r e = absurd (omega arith)
 
 pub record WellRead (h : List ℕ) (x : read.Header) : Type 0 where
   pub counted : x .fragmented ≤ x .count
+  pub alone : x .fragmented ≡ 0 → x .count ≡ 0
   pub slots : x .count ≤ 15
   pub falls : x .countdown ≤ 3
   pub flag : x .fragmented ≡ fragmentedIn (bitsOf h)
@@ -68,7 +70,7 @@ pub record WellRead (h : List ℕ) (x : read.Header) : Type 0 where
   pub long : length h ≡ 16
 
 header-well : (y : Sync) (h : List ℕ) → length h ≡ 16 → BodyHolds (bitsOf h) → WellRead h (headerOf y (bitsOf h))
-unfolding bodyOf fragmentedIn
+unfolding bodyOf fragmentedIn num
 header-well y h l k =
     let b = bitsOf h in
     let e = bodyOf b in
@@ -79,6 +81,7 @@ header-well y h l k =
     (omega arith) (k .there) in
     record {
       counted = k .rules .counted;
+      alone = λ z. rw z refl;
       slots = omega (arith, field-lt 4 12 (4 * fragmentedIn b) b (omega arith));
       falls = omega (arith, field-lt 2 (12 + 4 * fragmentedIn b) 2 b (omega arith));
       flag = refl;

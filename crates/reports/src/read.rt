@@ -47,7 +47,8 @@ pub fn headless(what: What, fault: u8, from: usize, bits: usize) -> Brought
     }
 }
 
-// An SCH/S with its SCH/H. The countdown stands at bit 16 of a fragmented header's SCH/H, and at bit 12 of another's.
+// An SCH/S with its SCH/H. The countdown stands at bit 16 of a fragmented header's SCH/H, and at bit 12 of another's,
+// which has no slot count.
 fn header(settings: Settings, q: Place, blocks: &[u8]) -> Brought
     requires { ⌜ length (now blocks) ≡ 24 ⌝ }
     ensures { λ r. ⌜ Reads settings (lent (q .frame) (q .slot) 2 (now (blocks .entry))) r ⌝ }
@@ -58,30 +59,20 @@ fn header(settings: Settings, q: Place, blocks: &[u8]) -> Brought
         return headless(What::Nothing, x.fault, 0, 0);
     }
     let fields = x.fields;
-    let meant = settings.meant(fields);
-    let from = SchS::BYTES * 8 + x.first;
-    if x.fragmented == 1 {
-        return Brought {
-            what: What::Fragmented,
-            fault: 0,
-            meant,
-            raw: store::without_two(h, 16),
-            fields,
-            more: x.count - 1,
-            countdown: x.countdown,
-            from,
-            bits: x.bits,
-        };
-    }
+    let what = if x.fragmented == 1 {
+        What::Fragmented
+    } else {
+        What::Unfragmented
+    };
     Brought {
-        what: What::Unfragmented,
+        what,
         fault: 0,
-        meant,
-        raw: store::without_two(h, 12),
+        meant: settings.meant(fields),
+        raw: store::without_two(h, 12 + 4 * (x.fragmented as usize)),
         fields,
-        more: 0,
+        more: x.count - x.fragmented,
         countdown: x.countdown,
-        from,
+        from: SchS::BYTES * 8 + x.first,
         bits: x.bits,
     }
 }

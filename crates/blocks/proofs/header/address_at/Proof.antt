@@ -1,35 +1,34 @@
 use native.Mathlib.Omega.{arith}
-use mathlib.Core.Path.{refl}
-use Rattle.blocks.proofs.HeaderLaws.{width-le-24}
 use borrow.Author.Needs.{needs}
+use Rattle.bits.specs.Bits.{bitsOf}
+use Rattle.bits.proofs.Bytes.{length-bitsOf}
+use Rattle.blocks.proofs.HeaderLaws.{address-absent, address-there}
 use Rattle.blocks.proofs.header.address_at.Statement.{statement}
 use Rattle.blocks.proofs.header.address_at.Tie as tie
 
-get8-requires : tie.Need-get8-requires
-get8-requires c κs = search needs
-
-address-width-requires : tie.Need-address-width-requires
-address-width-requires c κs = search needs
-
-add-get32 : tie.Need-add-get32
-add-get32 c = search needs
-
 get32-requires : tie.Need-get32-requires
-get32-requires c κs =
-    let w = width-le-24 (c .before .get8 .result) (c .address-width .ensures) in omega arith
+get32-requires c κs = search needs
 
-add-t6 : tie.Need-add-t6
-add-t6 c = search needs
+cast-kind : tie.Need-cast-kind
+cast-kind c = search needs
 
-add-t8 : tie.Need-add-t8
-add-t8 c =
-    let w = width-le-24 (c .before .before .get8 .result) (c .before .address-width .ensures) in omega arith
+add-t9 : tie.Need-add-t9
+add-t9 c = search needs
 
 returns : tie.Need-returns
 returns c =
-    rw (c .get32 .ensures .is, c .before .address-width .ensures, c .before .before .get8 .ensures .is) refl
+    let a = c .before .before .before .args in
+    address-absent (a .at) (bitsOf (a .h .now)) (c .before .get32 .result) (omega (arith, length-bitsOf (a .h .now)))
+    (c .before .get32 .ensures .is) (c .if1 .taken)
+
+add-t11 : tie.Need-add-t11
+add-t11 c = search needs
+
+returns-2 : tie.Need-returns-2
+returns-2 c =
+    let a = c .before .before .before .args in
+    address-there (a .at) (bitsOf (a .h .now)) (c .before .get32 .result) (omega (arith, length-bitsOf (a .h .now)))
+    (c .before .get32 .ensures .is) (c .if1 .left)
 
 pub address-at-spec : {M : Type 1} → statement M
-address-at-spec =
-    tie.close
-    (tie.spec get8-requires address-width-requires add-get32 get32-requires add-t6 add-t8 returns)
+address-at-spec = tie.close (tie.spec get32-requires cast-kind add-t9 returns add-t11 returns-2)

@@ -1,8 +1,10 @@
 use mathlib.Core.Path.{sym}
+use mathlib.Core.Bool.{true, false}
+use mathlib.Core.Logic.{⊎-elim}
 use native.Mathlib.Omega.{arith}
+use borrow.Author.Tests.{eq-eqb, ne-eqb}
 use lib.Seq.{length-take-le}
-use Rattle.reports.proofs.ReadLaws.{header-lent, raw-lent, header-none, first-small, counted, fragmented-reads}
-use Rattle.reports.proofs.ReadLaws.{unfragmented-reads}
+use Rattle.reports.proofs.ReadLaws.{header-none, first-small, flag-low, counted, header-reads}
 use borrow.Author.Needs.{needs}
 use Rattle.reports.proofs.read.header.Statement.{statement}
 use Rattle.reports.proofs.read.header.Tie as tie
@@ -30,72 +32,66 @@ headless-requires c κs = search needs
 returns : tie.Need-returns
 returns c =
     let a = c .before .before .before .before .before .before .before .args in
-    let e =
-    header-lent (a .settings) (a .q .frame) (a .q .slot) (a .blocks .now)
-    (c .before .before .before .read-reported .ensures) in
     rw (c .headless .ensures)
-    (header-none (a .settings) (a .q .frame) (a .q .slot) (a .blocks .now) e (c .before .if1 .taken))
+    (header-none (a .settings) (a .q .frame) (a .q .slot) (a .blocks .now)
+    (c .before .before .before .read-reported .ensures) (c .before .if1 .taken))
 
 meant-requires : tie.Need-meant-requires
 meant-requires c κs = search needs
 
-mul-from : tie.Need-mul-from
-mul-from c = search needs
+cast-without-two : tie.Need-cast-without-two
+cast-without-two c = search needs
 
-add-from : tie.Need-add-from
-add-from c =
-    let a = c .before .before .before .before .before .before .before .before .before .args in
-    let e =
-    header-lent (a .settings) (a .q .frame) (a .q .slot) (a .blocks .now)
-    (c .before .before .before .before .before .read-reported .ensures) in
-    omega (
-      arith,
-      first-small (a .settings) (a .q .frame) (a .q .slot) (a .blocks .now) e (c .before .before .before .if1 .left)
-          (c .before .before .before .before .before .before .before .before .before .pre),
-    )
+mul-without-two : tie.Need-mul-without-two
+mul-without-two c = search needs
+
+add-without-two : tie.Need-add-without-two
+add-without-two c = search needs
 
 without-two-requires : tie.Need-without-two-requires
-without-two-requires c κs = search needs
+without-two-requires c κs =
+    let r = c .before .before .before .before .before .before .before in
+    let a = r .before .before .before .before .args in
+    let f =
+    flag-low (a .settings) (a .q .frame) (a .q .slot) (a .blocks .now) (r .read-reported .ensures)
+    (c .before .before .before .before .before .if1 .left) (r .before .before .before .before .pre) in
+    search needs
 
-sub-t18 : tie.Need-sub-t18
-sub-t18 c =
-    let a =
-    c .before .before .before .before .before .before .before .before .before .before .before .before .before .args in
-    let e =
-    header-lent (a .settings) (a .q .frame) (a .q .slot) (a .blocks .now)
-    (c .before .before .before .before .before .before .before .before .before .read-reported .ensures) in
-    counted (a .settings) (a .q .frame) (a .q .slot) (a .blocks .now) e
-    (c .before .before .before .before .before .before .before .if1 .left)
-    (c .before .before .before .before .before .before .before .before .before .before .before .before .before .pre)
-    (c .before .before .if2 .taken)
+sub-t19 : tie.Need-sub-t19
+sub-t19 c =
+    let r = c .before .before .before .before .before .before .before .before .before in
+    let a = r .before .before .before .before .args in
+    let f =
+    counted (a .settings) (a .q .frame) (a .q .slot) (a .blocks .now) (r .read-reported .ensures)
+    (c .before .before .before .before .before .before .before .if1 .left) (r .before .before .before .before .pre) in
+    omega arith
+
+mul-t20 : tie.Need-mul-t20
+mul-t20 c = search needs
+
+add-t21 : tie.Need-add-t21
+add-t21 c =
+    let r = c .before .before .before .before .before .before .before .before .before .before in
+    let a = r .before .before .before .before .args in
+    let f =
+    first-small (a .settings) (a .q .frame) (a .q .slot) (a .blocks .now) (r .read-reported .ensures)
+    (c .before .before .before .before .before .before .before .before .if1 .left)
+    (r .before .before .before .before .pre) in
+    omega arith
 
 returns-2 : tie.Need-returns-2
 returns-2 c =
-    let a =
-    c .before .before .before .before .before .before .before .before .before .before .before .before .before .args in
-    let e =
-    header-lent (a .settings) (a .q .frame) (a .q .slot) (a .blocks .now)
-    (c .before .before .before .before .before .before .before .before .before .read-reported .ensures) in
-    fragmented-reads (a .settings) (a .q .frame) (a .q .slot) (a .blocks .now) e
-    (c .before .before .before .before .before .before .before .if1 .left)
-    (c .before .before .before .before .before .before .before .before .before .before .before .before .before .pre)
-    (c .before .before .if2 .taken) (c .before .before .before .before .before .meant .ensures)
-    (raw-lent (a .settings) (a .q .frame) (a .q .slot) (a .blocks .now) 16 (c .before .without-two .ensures))
-
-without-two-requires-2 : tie.Need-without-two-requires-2
-without-two-requires-2 c κs = search needs
-
-returns-3 : tie.Need-returns-3
-returns-3 c =
-    let a = c .before .before .before .before .before .before .before .before .before .before .before .before .args in
-    let e =
-    header-lent (a .settings) (a .q .frame) (a .q .slot) (a .blocks .now)
-    (c .before .before .before .before .before .before .before .before .read-reported .ensures) in
-    unfragmented-reads (a .settings) (a .q .frame) (a .q .slot) (a .blocks .now) e
-    (c .before .before .before .before .before .before .if1 .left)
-    (c .before .before .before .before .before .before .before .before .before .before .before .before .pre)
-    (c .before .if2 .left) (c .before .before .before .before .meant .ensures)
-    (raw-lent (a .settings) (a .q .frame) (a .q .slot) (a .blocks .now) 12 (c .without-two2 .ensures))
+    let r = c .before .before .before .before .before .before .before .before .before .before in
+    let a = r .before .before .before .before .args in
+    let i = c .before .before .before .before .before .if2 in
+    let reads =
+    header-reads (a .settings) (a .q .frame) (a .q .slot) (a .blocks .now) (r .read-reported .ensures)
+    (c .before .before .before .before .before .before .before .before .if1 .left)
+    (r .before .before .before .before .pre)
+    (c .before .before .before .before .meant .ensures) (c .before .before .without-two .ensures) (i .what) in
+    let f = r .read-reported .result .fragmented in
+    ⊎-elim (λ w. reads true (eq-eqb f 1 (w .0 .taken)) (w .1)) (λ w. reads false (ne-eqb f 1 (w .0 .left)) (w .1))
+    (i .came)
 
 pub header-spec : {M : Type 1} → statement M
 header-spec =
@@ -109,10 +105,11 @@ header-spec =
     headless-requires
     returns
     meant-requires
-    mul-from
-    add-from
+    cast-without-two
+    mul-without-two
+    add-without-two
     without-two-requires
-    sub-t18
-    returns-2
-    without-two-requires-2
-    returns-3)
+    sub-t19
+    mul-t20
+    add-t21
+    returns-2)
