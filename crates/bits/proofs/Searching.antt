@@ -77,7 +77,14 @@ slice-split f j t l h k i =
     ∙ drop-append-le f (take j (take t l)) (slice j t l) (rw (length-take j (take t l), length-take t l) (omega arith))
     ∙ ap (λ (x : List Bool). drop f x ++ slice j t l) (take-take j t l k)
 
--- a turn: byte j is looked at but for its last a bits, which stand after the room; there is no 1 after it
+-- what a look at byte j, but for its last a bits, tells of a room
+pub record Turn (s : List ℕ) (from to j a : ℕ) : Type 0 where
+  pub more : getD s j 0 / 2 ^ a ≡ 0 → strip (slice (8 * j) to (bitsOf s)) ≡ none
+  pub found : 0 < getD s j 0 / 2 ^ a
+      → (trailingZeros 8 (getD s j 0 / 2 ^ a) ≤ 8 * j + 7 - a)
+      × (At (8 * j + 7 - a - trailingZeros 8 (getD s j 0 / 2 ^ a)) ≡ foundAt from (strip (slice from to (bitsOf s))))
+
+-- where these bits stand after the room, and there is no 1 after the byte
 module _ (s : List ℕ) (from to i j a : ℕ) (n : i ≡ suc j) (f : from ≤ 8 * j) (h : 8 * j < to) (t : to ≤ 8 * length s)
     (e : a ≡ 8 * i - to) (b : getD s j 0 < 256) (z : strip (slice (8 * i - a) to (bitsOf s)) ≡ none) where
   looked : List Bool
@@ -99,10 +106,6 @@ module _ (s : List ℕ) (from to i j a : ℕ) (n : i ≡ suc j) (f : from ≤ 8 
   split-here =
       slice-split (8 * j) (8 * i - a) to (bitsOf s) (omega arith) (omega arith) (omega (arith, length-bitsOf s))
 
-  pub turn-more : getD s j 0 / 2 ^ a ≡ 0 → strip (slice (8 * j) to (bitsOf s)) ≡ none
-  turn-more v =
-      rw (split-here, strip-before looked (slice (8 * i - a) to (bitsOf s)) z) (num-none looked (sym value ∙ v))
-
   at-last : (k : ℕ) (m : List Bool) → strip looked ≡ some m → length m + suc k ≡ length looked
       → (k ≤ 8 * j + 7 - a) × (At (8 * j + 7 - a - k) ≡ foundAt from (strip (slice from to (bitsOf s))))
   unfolding foundAt
@@ -122,12 +125,17 @@ module _ (s : List ℕ) (from to i j a : ℕ) (n : i ≡ suc j) (f : from ≤ 8 
         ) refl,
       )
 
-  pub turn-found : 0 < getD s j 0 / 2 ^ a
-      → (trailingZeros 8 (getD s j 0 / 2 ^ a) ≤ 8 * j + 7 - a)
-      × (At (8 * j + 7 - a - trailingZeros 8 (getD s j 0 / 2 ^ a)) ≡ foundAt from (strip (slice from to (bitsOf s))))
-  turn-found v =
-      let q = num-some looked 8 (rw value at v) (omega (arith, length-looked)) in
-      rw value (at-last (trailingZeros 8 (num looked)) (q .0) (q .1) (q .2))
+  pub turn : Turn s from to j a
+  turn =
+      record {
+        more =
+            λ v. rw (split-here, strip-before looked (slice (8 * i - a) to (bitsOf s)) z)
+            (num-none looked (sym value ∙ v));
+        found =
+            λ v.
+            let q = num-some looked 8 (rw value at v) (omega (arith, length-looked)) in
+            rw value (at-last (trailingZeros 8 (num looked)) (q .0) (q .1) (q .2));
+      }
 
 -- the room from bit `from` on, in one that starts earlier: a 1 before `from` is none of its own
 abbrev pub Within : ℕ → Found → Found → Type 0

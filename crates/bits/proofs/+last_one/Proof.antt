@@ -12,8 +12,9 @@ use lib.Seq.{slice, slice-empty}
 use Rattle.bits.specs.Bits.{bitsOf, Inside}
 use Rattle.bits.specs.Fill.{strip, foundAt}
 use Rattle.bits.specs.declared.Found.{Found}
+use Rattle.bits.specs.declared.Found.the-variants.{At}
 use Rattle.bits.proofs.Bytes.{length-bitsOf}
-use Rattle.bits.proofs.Searching.{turn-more, turn-found, Within, last-within}
+use Rattle.bits.proofs.Searching.{Turn, turn, Within, last-within}
 use borrow.Fn.Kinds.{In}
 use borrow.Fn.PlainCycle.{Measures, is, falls, and}
 use Rattle.bits.proofs.last_one.Reads as reads
@@ -68,19 +69,22 @@ returns t c =
     rw (c .enum-told .given .1)
     at (own (b .args .s .now) (b .args .from) (b .args .to) (r .result) (b .pre .1) (r .ensures))
 
+-- where it has found a 1
+found : (t : ℕ) (c : lts.After-known-told (earlier t, reads.Post) (here t) reads.Post Inv-loop μ-loop)
+    → (let a = c .before .before .before .before .before .before .args in
+    Within (a .from) (At (c .before .at .given .0 .0))
+    (foundAt (a .from) (strip (slice (a .from) (a .to) (bitsOf (a .s .now))))))
+found t c =
+    let b = c .before .before .before .before .before .before in
+    let r = c .before .before .before .last-one in
+    rw (c .before .at .given .1)
+    at (own (b .args .s .now) (b .args .from) (b .args .to) (r .result) (b .pre .1) (r .ensures))
+
 returns-2 : (t : ℕ) → lts.Need-returns-2 (earlier t, reads.Post) (here t) reads.Post Inv-loop μ-loop
-returns-2 t c =
-    let b = c .before .before .before .before .before .before .before in
-    let r = c .before .before .before .before .last-one in
-    (rw (c .before .before .at .given .1)
-    at (own (b .args .s .now) (b .args .from) (b .args .to) (r .result) (b .pre .1) (r .ensures))) .0 (omega arith)
+returns-2 t c = found t (c .before) .0 (omega arith)
 
 returns-3 : (t : ℕ) → lts.Need-returns-3 (earlier t, reads.Post) (here t) reads.Post Inv-loop μ-loop
-returns-3 t c =
-    let b = c .before .before .before .before .before .before .before in
-    let r = c .before .before .before .before .last-one in
-    (rw (c .before .before .at .given .1)
-    at (own (b .args .s .now) (b .args .from) (b .args .to) (r .result) (b .pre .1) (r .ensures))) .1 (omega arith)
+returns-3 t c = found t (c .before) .1 (omega arith)
 
 add-i : (t : ℕ) → lts.Need-add-i (earlier t, reads.Post) (here t) reads.Post Inv-loop μ-loop
 add-i t c = omega arith
@@ -120,42 +124,35 @@ cast-t23 t c =
     let a = c .before .before .before .before .before .before .args in
     omega (arith, trailing-le 8 (getD (a .s .now) (l .i - 1) 0 / 2 ^ l .after))
 
-sub-t24 : (t : ℕ) → lts.Need-sub-t24 (earlier t, reads.Post) (here t) reads.Post Inv-loop μ-loop
-sub-t24 t c =
-    let a = c .before .before .before .before .before .before .args in
-    let l = c .before .before .before .loop in
+-- a turn of the loop
+turned : (t : ℕ) (c : lts.After-shared-slice-known2 (earlier t, reads.Post) (here t) reads.Post Inv-loop μ-loop)
+    → (let a = c .before .before .before .before .before .args in
+    let l = c .before .before .loop in
+    Turn (a .s .now) (a .from) (a .to) (l .i - 1) (l .after))
+turned t c =
+    let a = c .before .before .before .before .before .args in
+    let l = c .before .before .loop in
     let m = and-mask (a .from) 3 in
-    let f =
-    turn-found (a .s .now) (a .from) (a .to) (l .i) (l .i - 1) (l .after) (omega arith) (omega arith) (omega arith)
-    (omega arith) (l .inv .2) (omega (arith, c .before .shared-slice-known2 .given (l .i - 1))) (l .inv .3)
-    (omega arith) in
-    omega arith
+    turn (a .s .now) (a .from) (a .to) (l .i) (l .i - 1) (l .after) (omega arith) (omega arith) (omega arith)
+    (omega arith) (l .inv .2) (omega (arith, c .shared-slice-known2 .given (l .i - 1))) (l .inv .3)
+
+sub-t24 : (t : ℕ) → lts.Need-sub-t24 (earlier t, reads.Post) (here t) reads.Post Inv-loop μ-loop
+sub-t24 t c = let f = turned t (c .before) .found (omega arith) in omega arith
 
 returns-4 : (t : ℕ) → lts.Need-returns-4 (earlier t, reads.Post) (here t) reads.Post Inv-loop μ-loop
 returns-4 t c =
-    let a = c .before .before .before .before .before .before .args in
-    let l = c .before .before .before .loop in
-    let m = and-mask (a .from) 3 in
-    let f =
-    turn-found (a .s .now) (a .from) (a .to) (l .i) (l .i - 1) (l .after) (omega arith) (omega arith) (omega arith)
-    (omega arith) (l .inv .2) (omega (arith, c .before .shared-slice-known2 .given (l .i - 1))) (l .inv .3)
-    (omega arith) in
-    let e : (l .i - 1) * 8 % 2 ^ 64 ≡ 8 * (l .i - 1) = omega arith in
-    rw e (f .1)
+    let i = c .before .before .before .loop .i in
+    let e : (i - 1) * 8 % 2 ^ 64 ≡ 8 * (i - 1) = omega arith in
+    rw e (turned t (c .before) .found (omega arith) .1)
 
 loop-less : (t : ℕ) → lts.Need-loop-less (earlier t, reads.Post) (here t) reads.Post Inv-loop μ-loop
 loop-less t c = omega arith
 
 loop-again : (t : ℕ) → lts.Need-loop-again (earlier t, reads.Post) (here t) reads.Post Inv-loop μ-loop
 loop-again t c =
-    let a = c .before .before .before .before .before .before .args in
-    let l = c .before .before .before .loop in
-    let m = and-mask (a .from) 3 in
-    let z =
-    turn-more (a .s .now) (a .from) (a .to) (l .i) (l .i - 1) (l .after) (omega arith) (omega arith) (omega arith)
-    (omega arith) (l .inv .2) (omega (arith, c .before .shared-slice-known2 .given (l .i - 1))) (l .inv .3)
-    (omega arith) in
-    (omega arith, omega arith, omega arith, rw (sub-zero (8 * (l .i - 1))) z)
+    let i = c .before .before .before .loop .i in
+    let z = turned t (c .before) .more (omega arith) in
+    (omega arith, omega arith, omega arith, rw (sub-zero (8 * (i - 1))) z)
 
 returns-5 : (t : ℕ) → lts.Need-returns-5 (earlier t, reads.Post) (here t) reads.Post Inv-loop μ-loop
 unfolding foundAt
