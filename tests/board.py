@@ -12,7 +12,7 @@ The library is proved and built by `rt staticlib board`. The compiler is the kit
 - the library reads and writes each field where the header has it, and each number of the header is the library's: tests/layout.c;
 - altered headers are not taken: with a field of another type, a field more or two fields in each other's place, for all fields of all structs;
   with another number, for all numbers; with a parameter of another type, for all parameters.
-- the search for the last 1 stands in the library once, and those who need it call it.
+- the search for the last 1 is a function of the library that is called, from two places at least.
 Another C compiler for x86-64, where there is one, compiles both programs with its own headers, and they print the same. The header is read
 as C++ by the kit's clang, and by another compiler where there is one.
 """
@@ -34,7 +34,7 @@ PROGRAMS = os.path.join(TOP, "target", "bin")  # where run-program looks; ours a
 EXAMPLE, LAYOUT = os.path.join("examples", "board"), os.path.join("tests", "layout")  # each has a .c and a .txt
 WARNINGS = ["-Wall", "-Wextra", "-pedantic", "-Werror"]
 OF_C = {"memcpy", "memmove", "memset", "memcmp"}  # what the header says that the library needs
-ONCE = "bits::last_one"  # what stands in the library once, and is called
+CALLED = "bits::last_one"  # what is not to be copied into its callers
 
 
 def fail(what):
@@ -249,8 +249,8 @@ def programs():
     needed = set(re.findall(r"undefined symbol: (\S+)", alone.stdout))
     if not needed <= OF_C or not needed and alone.returncode:
         fail("the library needs of a C library: %s" % (" ".join(sorted(needed)) or alone.stdout))
-    if len(image.calls(LIBRARY).get(ONCE, [])) < 2:
-        fail("%s is copied into its callers: it does not stand in the library as a function that they call" % ONCE)
+    if len(image.calls(LIBRARY).get(CALLED, [])) < 2:
+        fail("%s is copied into its callers: it does not stand in the library as a function that they call" % CALLED)
     return texts
 
 
