@@ -38,6 +38,7 @@ enum { NOT_BOOKED, BOOKED, AGAIN };
 #define INDIVIDUAL 0x4a1f03
 #define GROUP 0x90c201
 #define OTHER 0x33e410
+#define SECOND 0x6b07e2
 #define MNI 0x2a5b11
 
 #define PAINT 0xa5
@@ -146,17 +147,24 @@ static Sync sync_at(unsigned frame, unsigned slot)
 }
 
 /* The blocks of a message whose header is the one of place i; how many follow it. */
-static unsigned blocks_at(uint8_t *out, unsigned i, unsigned countdown, uint32_t to, unsigned n,
-			  const uint8_t *message)
+static unsigned blocks_of(uint8_t *out, unsigned i, unsigned countdown, const Fields *fields,
+			  unsigned n, const uint8_t *message)
 {
 	Sync sync = sync_at(i / 2 % FRAMES + 1, i % 2 ? 3 : 1);
-	Fields fields = fields_to(to);
 	Built built;
 
-	BUILD(built, &sync, countdown, &fields, n, message, ROOM, out, BLOCKS);
+	BUILD(built, &sync, countdown, fields, n, message, ROOM, out, BLOCKS);
 	if (built.fault)
 		fail("a build for a log was refused");
 	return built.blocks;
+}
+
+static unsigned blocks_at(uint8_t *out, unsigned i, unsigned countdown, uint32_t to, unsigned n,
+			  const uint8_t *message)
+{
+	Fields fields = fields_to(to);
+
+	return blocks_of(out, i, countdown, &fields, n, message);
 }
 
 /* Multiframes in which nothing is heard. */
@@ -227,6 +235,23 @@ static void send(unsigned x, unsigned countdown, uint32_t to, unsigned n, const 
 		hand_over(first, UNFRAGMENTED, n, message);
 }
 
+/* Two senders in turn from the x-th frame on: the header of the one in slot 1 of four frames, that
+   of the other in slot 3. */
+static void send_in_turn(unsigned x, unsigned n, const uint8_t *one, const uint8_t *other)
+{
+	uint8_t out[BLOCKS];
+	Fields fields = fields_to(INDIVIDUAL);
+	unsigned first = 2 * x;
+
+	for (unsigned k = 0; k < 8; k++) {
+		fields.source.ssi = k % 2 ? SECOND : OTHER;
+		blocks_of(out, first + k, 3 - k / 2, &fields, n, k % 2 ? other : one);
+		bring(first + k, HEADER, out, COPY);
+	}
+	hand_over(first, UNFRAGMENTED, n, one);
+	hand_over(first + 1, UNFRAGMENTED, n, other);
+}
+
 /* Other short headers than the slot before had, one in each slot. */
 static void short_headers(uint32_t to)
 {
@@ -268,6 +293,14 @@ static void make_copies(void)
 	silence(1);
 	for (unsigned k = 0; k < 4; k++)
 		send(4 * k + k / 2, 3, k % 2 ? GROUP : INDIVIDUAL, 16 + k, messages[k]);
+}
+
+/* Four times two senders in turn, four headers each. */
+static void make_between(void)
+{
+	silence(1);
+	for (unsigned k = 0; k < 4; k++)
+		send_in_turn(4 * k + k / 2, 16 + k, messages[k], messages[k + 3]);
 }
 
 /* In each slot a header or a block for this unit with one fault, every fault in turn. */
@@ -331,9 +364,10 @@ static void make_mixed(void)
 	unsigned second = FRAMES, third = 2 * FRAMES, fourth = 3 * FRAMES, lost;
 
 	silence(4);
-	/* A short message and its copies, then one of three blocks. */
+	/* A short message and its copies, then one of three blocks, then two senders in turn. */
 	send(0, 3, INDIVIDUAL, SHORT, messages[0]);
 	send(5, 1, INDIVIDUAL, INSIDE + 2 * FULL + 100, messages[1]);
+	send_in_turn(12, 16, messages[2], messages[3]);
 
 	/* Two of others. A header of which slot 3 alone came through, and a damaged block. */
 	send(second, 3, OTHER, 16, messages[2]);
@@ -948,6 +982,7 @@ static const struct measured {
 	{"hear-run", make_run, count_hear, check_hear},
 	{"hear-short", make_short, count_hear, check_hear},
 	{"hear-copies", make_copies, count_hear, check_hear},
+	{"hear-between", make_between, count_hear, check_hear},
 	{"hear-others", make_others, count_hear, check_hear},
 	{"hear-faults", make_faults, count_hear, check_hear},
 	{"hear-refused", make_refused, count_hear, check_hear},

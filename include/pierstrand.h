@@ -198,12 +198,9 @@ struct pierstrand_receiver {
 		uint8_t slot;
 	} place;
 	struct {
-		struct {
-			uint64_t high;
-			uint64_t low;
-		} raw;
-		uint8_t again;
-	} nearest;
+		size_t count;
+		uint64_t places[21]; /* seven headers, three numbers each */
+	} near;
 	struct {
 		struct {
 			struct pierstrand_fields fields;
@@ -286,6 +283,7 @@ struct pierstrand_fresh pierstrand_fresh(uint32_t individual, uint32_t group, ui
  * reported, in their order, one that brought nothing too: slot 3 of a frame after its slot 1, then
  * slot 1 of the next frame, frame 1 after frame 18. The first report may be any. One that does not
  * follow the last accepted one is a break: it drops an open assembly, and nothing is a copy over it.
+ * With no break between, a repeat of an unfragmented message is a copy whatever else came between.
  *
  *   frame    1 to 18
  *   slot     1 or 3: its number, not its code

@@ -9,7 +9,7 @@ sys.path.insert(0, os.path.join(os.path.dirname(os.path.abspath(__file__)), ".."
 import second
 
 DESK, SITES, NETWORK = 5001, 900, 901  # the unit at the hire desk, the group of all sites, the MNI
-OTHER_DESK, CAGE_2, CAGE_3 = 5002, 7, 8
+OTHER_DESK, CAGE_2, CAGE_3, CAGE_4 = 5002, 7, 8, 9
 # DM-SDS DATA (23) and DM-SDS ACK (24), with the width and the number of their elements.
 DATA, ACK = dict(message=23, width=8, elements=0b1001_0_01_0), dict(message=24, width=1, elements=0)
 
@@ -364,7 +364,9 @@ def copies():
 
     ---
 
-    A copy has outcome 5. A header that opens an assembly has outcome 3 with each repeat; the message is handed over once, with its last block.
+    A copy has outcome 5. A header is held against every earlier one for this unit since the last break, whoever was
+    heard in between. A header that opens an assembly has outcome 3 with each repeat; the message is handed over once,
+    with its last block.
     """
     log = Log(3, 1)
     back = Message("K12", sort=ACK)
@@ -373,13 +375,14 @@ def copies():
     log.header(back, "1 0 0 24", "cage 2: kit 12 is back. One header, handed over; its countdown says that it comes in two more frames", 2)
     log.header(back, "5 0 0 0", "the same in slot 3: a copy, not handed over", 2)
     log.header(back, "5 0 0 0", "a frame on, the countdown one less: a copy", 1)
-    log.nothing("one repeat was not heard; the next is held against the last one that was")
+    log.nothing("one repeat was not heard; the next is held against those that were")
     log.header(back, "5 0 0 0", "a copy", 0)
     log.header(back, "5 0 0 0", "a copy", 0)
     log.header(back, "1 0 0 24", "**the same header with the countdown at 2 again:** it did not fall with the frames, so this is a new message", 2)
     log.header(back, "5 0 0 0", "its copy", 2)
     log.header(other, "1 0 0 24", "**cage 3 in between,** to all sites: drill kit 3 is back. The group is one of this unit's addresses, so this is handed over", 0)
-    log.header(back, "1 0 0 24", "**cage 2's header again.** It is held against the nearest earlier one, which was cage 3's: no copy, so it is handed over once more", 1)
+    log.header(back, "5 0 0 0", "**cage 2's header again.** Cage 3's came in between, and that changes nothing: a copy "
+               "of line 7's, a frame on, the countdown one less", 1)
     log.nothing()
     log.nothing()
     log.header(hire, OPENS, "a longer message begins; its header opens an assembly", 1)
@@ -387,6 +390,52 @@ def copies():
     log.header(hire, OPENS, "a frame on", 0)
     log.header(hire, OPENS, "the last repeat", 0)
     log.block(hire, 1, joined(hire.text), "its one block: handed over, once")
+    return log
+
+
+def two_cages():
+    """Two cages answer in turn
+
+    The desk asked cages 2 and 3 for their kits, and both answered in the same frames. An answer is one header, and it
+    comes again in the next frames; the unit hears now the one cage, now the other. Each answer has to come out once.
+
+    ---
+
+    A header is held against every earlier one for this unit since the last break, not only against the nearest. It is a
+    copy if one of them has the same bits and a countdown that has fallen, since then, by just the frames gone by.
+
+    ## What the unit did before
+
+    It held a header against the nearest earlier one alone. At line 3 that was cage 3's, so it took cage 2's repeat for
+    a new message and printed
+
+        10 1 1 0 0 24
+
+    Copy, other, copy: cage 2's message came out twice, and kit 12 was back two times. From line 7 to line 15 it printed
+    outcome 1 in each line, nine messages where three were sent; only at line 16 was the nearest header cage 4's own.
+    """
+    log = Log(9, 1)
+    back = Message("K12", sort=ACK)
+    other = Message("D03", source=CAGE_3, sort=ACK)
+    log.header(back, "1 0 0 24", "cage 2: kit 12 is back. Handed over; the header comes again in the next frame", 1)
+    log.header(other, "1 0 0 24", "cage 3, in slot 3: drill kit 3 is back. Handed over", 0)
+    log.header(back, "5 0 0 0", "**cage 2's header again, cage 3's in between.** The bits are those of line 1, and in "
+               "one frame the countdown fell by one: a copy", 0)
+    log.header(back, "5 0 0 0", "the same in slot 3", 0)
+    log.nothing(count=2)
+    back = Message("K07", sort=ACK)
+    other = Message("D09", source=CAGE_3, sort=ACK)
+    third = Message("K21", to=SITES, source=CAGE_4, sort=ACK)
+    log.header(back, "1 0 0 24", "cage 2 in slot 1: kit 7 is back. Its header comes in three more frames", 3)
+    log.header(other, "1 0 0 24", "cage 3 in slot 3: drill kit 9 is back. Its header comes in three more frames too", 3)
+    log.header(back, "5 0 0 0", "a frame on: cage 2's is a copy of line 7's", 2)
+    log.header(other, "5 0 0 0", "and cage 3's of line 8's", 2)
+    log.header(back, "5 0 0 0", "cage 2's again", 1)
+    log.header(third, "1 0 0 24", "**a third cage joins in:** cage 4, to all sites, has kit 21 back. Handed over", 2)
+    log.header(back, "5 0 0 0", "cage 2's for the last time, now with cage 4's in between: still a copy", 0)
+    log.header(other, "5 0 0 0", "cage 3's for the last time; since line 10 both others came in between: a copy", 0)
+    log.header(third, "5 0 0 0", "cage 4's, two frames on: a copy of line 12's", 0)
+    log.header(third, "5 0 0 0", "the same in slot 3")
     return log
 
 
@@ -493,5 +542,6 @@ def no_unit():
 
 # The stories that go on in calls.
 CALLS = {"june": june_goes_on}
-LOGS = {"june": june, "second-cage": second_cage, "missed-block": missed_block, "copies": copies, "goes-back": goes_back,
-        "copy-18-later": copy_18_later, "damaged": damaged, "no-unit": no_unit}
+LOGS = {"june": june, "second-cage": second_cage, "missed-block": missed_block, "copies": copies,
+        "two-cages": two_cages, "goes-back": goes_back, "copy-18-later": copy_18_later, "damaged": damaged,
+        "no-unit": no_unit}

@@ -269,23 +269,28 @@ def copies():
     h.nothing(6)
     h.header(SHORT, 0, 5)
     yield h
-    # a header between: for another unit it does not count
-    for between, outcome, again in ((Message(15, **OTHER), 0, 5), (Message(300, **OTHER), 0, 5), (Message(14), 1, 1), (Message(300), 3, 1)):
+    # a header between, for this unit or another, fragmented or not
+    for n, other, outcome in ((15, OTHER, 0), (300, OTHER, 0), (14, {}, 1), (300, {}, 3)):
         h = History(12)
         h.header(SHORT, 1, 1)
-        h.header(between, 1, outcome)
-        h.header(SHORT, 0, again)
+        h.header(Message(n, **other), 1, outcome)
+        h.header(SHORT, 0, 5)
+        h.header(SHORT, 1, 1)  # the countdown does not fit
         yield h
     # every bit of SCH/H counts but for the countdown's; those of SCH/S do not
     for other, outcome in ((dict(source=8), 1), (dict(seed=1), 1), (dict(elements=0xA4), 1), (dict(to=GROUP), 1), (dict(system=15, usage=3), 5)):
         h = History(12)
         h.header(SHORT, 1, 1)
         h.header(Message(15, **other), 1, outcome)
+        h.header(SHORT, 0, 5)
+        h.header(Message(15, **other), 0, 5)
         yield h
     for bit in (0, 9):
         h = History(12)
         h.header(SHORT, 1, 1)
         h.tell(HEADER, put(SHORT.built(12, 3, 1)[0], 64 + bit, 1, 1), 1, message=SHORT)
+        h.header(SHORT, 0, 5)
+        h.tell(HEADER, put(SHORT.built(13, 3, 0)[0], 64 + bit, 1, 1), 5)
         yield h
     # breaks: the same slot twice, back, on, and far off; and the same slot eighteen frames later
     for back in ((3, 1), (2, 3), (4, 1), (18, 1)):
@@ -304,6 +309,95 @@ def copies():
     h.header(SHORT, 1, 1)
     h.header(SHORT, 0, 5, 1)
     h.block(TWO, 0, 0)
+    yield h
+
+
+# Who sends in turn: unfragmented messages for this unit, a to h, and two fragmented ones, F and G; for another unit o,
+# the same as a but for its destination, and O, which is fragmented.
+SENDERS = dict(a=SHORT, b=Message(14, source=8), c=Message(15, seed=1), d=Message(15, to=GROUP), e=Message(0),
+               f=Message(21, source=7), g=Message(15, elements=0), h=Message(15, message=22), F=TWO,
+               G=Message(300, seed=9), o=Message(15, **OTHER), O=Message(300, **OTHER))
+
+
+def turns(h, headers):
+    """Headers one slot after the other: who sends, the countdown, a colon, the outcome; `!`: an assembly is dropped."""
+    for word in headers.split():
+        h.header(SENDERS[word[0]], int(word[1]), int(word[3]), int(word.endswith("!")))
+
+
+def in_turn():
+    """Copies with other headers between: of two senders, three and seven; of one with two countdowns; breaks."""
+    two = ["a1:1 b1:1 a0:5", "a3:1 b3:1 a2:5 b2:5 a1:5 b1:5 a0:5 b0:5 a0:1 b0:1",
+           "a3:1 a3:5 b2:1 a2:5 b1:5 b1:5 a0:5 b0:5", "a1:1 b3:1 a0:5 b2:5 a0:1 b1:5 a0:1 b0:5",
+           "a3:1 b3:1 b2:5 b2:5 b1:5 b1:5 b0:5 a0:5", "a0:1 b0:1 a0:1 b0:1"]
+    three = ["a3:1 b3:1 c3:1 a2:5 b1:5 c2:5 a0:5 b0:5 c0:5", "a3:1 b3:1 c3:1 a3:1 b2:1 c1:1 a1:5 b0:5",
+             "a2:1 c2:1 d1:1 a1:5 c0:5 d0:5 a0:1", "e3:1 b3:1 a2:1 e2:5 a1:5 b1:5 e0:5 a0:5"]
+    # the same header with a countdown that did not fall with the frames: handed over, and then copies of both come
+    both = ["a3:1 a3:5 a3:1 a2:5 a1:5 a2:5 a0:5 a1:5 a0:5", "a3:1 a3:5 a3:1 a2:5 a0:1 a3:1 a2:5 a0:5",
+            "a3:1 b3:1 a3:1 b3:1 a1:5 b1:5 a1:5 b1:5", "a1:1 a2:1 a0:5 a1:5 a0:5"]
+    seven = "a3:1 b3:1 c3:1 d3:1 e3:1 f3:1 g3:1 "
+    again = [seven + one for one in ("a0:5", "b0:5", "c1:5", "d1:5", "e2:5", "f2:5", "g3:5")]
+    misfit = [seven + one for one in ("a1:1", "b1:1", "c0:1", "d2:1", "e1:1", "f3:1", "g2:1")]
+    all_seven = seven + "a0:5 c0:5 d0:5 e0:5 f0:5 g0:5 g0:5 a0:1"
+    eight = seven + "h3:1 a0:1 c0:5 e0:5 f0:5 g0:5 h0:5"
+    # for another unit between, or first
+    others = ["a2:1 o2:0 a1:5 o1:0 a0:5 o0:0", "o3:0 o3:0 a2:1 o2:0 a1:5", "a3:1 O3:0 a2:5 O2:0 b1:1 a1:5 a0:5 b0:5"]
+    # fragmented between; the mark is about the open assembly's own header alone
+    mixed = ["F3:3 a3:1 O3:0! a2:5 F1:3 a1:5 F0:3 a0:5", "F2:3 G2:3! F1:3! F1:3 G0:3!",
+             "a3:1 F3:3 b2:1 G2:3! a1:5 F1:3! b0:5 a0:5"]
+    for headers in two + three + both + again + misfit + [all_seven, eight] + others + mixed:
+        h = History(17)
+        turns(h, headers)
+        yield h
+    h = History(4, 3)
+    turns(h, "a2:1 b2:1 a1:5 b1:5 a0:5 b0:5")
+    yield h
+    # the third of each is in a due slot
+    for headers in ("F0:3 a1:1 b1:1! a0:5 b0:5", "F0:3 a1:1 a0:5! b1:1 b0:5 a0:1"):
+        h = History(4)
+        turns(h, headers)
+        yield h
+    # a longer message's blocks come all the same
+    h = History(17)
+    turns(h, "a3:1 F3:3 a2:5 F2:3 a1:5 F1:3 a0:5 F0:3")
+    h.block(TWO, 0, 4)
+    turns(h, "b1:1")
+    h.block(TWO, 1, 2)
+    turns(h, "b0:5")
+    yield h
+    # slots in which nothing was heard
+    h = History(17)
+    turns(h, "a3:1")
+    h.nothing()
+    turns(h, "b2:1 c1:1")
+    h.nothing(2)
+    turns(h, "a0:5 b0:5 c0:1")
+    yield h
+    # breaks: a slot left out, a report twice, and one of nothing; each forgets all headers before it
+    h = History(17)
+    turns(h, "a3:1 b3:1 a2:5")
+    h.place = (1, 1)
+    turns(h, "b1:1 a1:1 b0:5 a0:5")
+    h.place = (2, 3)
+    turns(h, "a0:1 b0:1")
+    yield h
+    h = History(17)
+    turns(h, "a3:1 b3:1")
+    h.nothing(at=(17, 3))
+    turns(h, "a2:1 b2:1 a1:5 b1:5")
+    yield h
+    h = History(17)
+    turns(h, seven)
+    h.place = (3, 1)
+    turns(h, "g2:1 f1:1 g2:1 g1:5")
+    yield h
+    # one that reads with a fault, or whose report is refused, is no earlier header, and those before it stay
+    h = History(17)
+    turns(h, "a3:1 b3:1")
+    h.tell(HEADER, put(SENDERS["c"].built(18, 1, 3)[0], 188, 1, 1), fault=2)
+    turns(h, "a2:5 c2:1")
+    h.tell(HEADER, SENDERS["d"].built(1, 1, 2)[0], fault=16, at=(1, 2))
+    turns(h, "d2:1 b0:5 a0:5 d0:5")
     yield h
 
 
@@ -442,7 +536,8 @@ def before_settings():
 def calls():
     """Each call with the line that answers it."""
     found = before_settings()
-    for made in (whole_runs, missed, kinds_of_block, other_headers, repeats, copies, breaks, damaged, refused, units):
+    for made in (whole_runs, missed, kinds_of_block, other_headers, repeats, copies, in_turn, breaks, damaged, refused,
+                 units):
         for history in made():
             found += history.calls
     return found

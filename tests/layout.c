@@ -39,7 +39,7 @@ struct shape {
 #define RECEIVER(type, in) \
 	FIELD(type, in settings.individual), FIELD(type, in settings.group), FIELD(type, in settings.mni), \
 	FIELD(type, in place.frame), FIELD(type, in place.slot), \
-	FIELD(type, in nearest.raw.high), FIELD(type, in nearest.raw.low), FIELD(type, in nearest.again), \
+	FIELD(type, in near.count), FIELD(type, in near.places), \
 	FIELDS(type, in assembly.run.fields.), FIELD(type, in assembly.run.raw.high), FIELD(type, in assembly.run.raw.low), \
 	FIELD(type, in assembly.run.held), FIELD(type, in assembly.run.again), FIELD(type, in assembly.run.more), \
 	FIELD(type, in assembly.run.frame), FIELD(type, in assembly.run.countdown), FIELD(type, in assembly.run.kept), \
@@ -79,9 +79,11 @@ static const struct pierstrand_built set_built = {1, 2};
 static const struct pierstrand_due set_due = {1, 2};
 static const struct pierstrand_answer set_answer = {1, 2, 3, 4, {{5, 6}, {7, 8}, 9, 10, 11, 12}};
 static const struct pierstrand_receiver set_receiver = {
-	{1, 2, 3}, {4, 5}, {{6, 7}, 8}, {{{{9, 10}, {11, 12}, 13, 14, 15, 16}, {17, 18}, 19, 20, 21, 22, 23, 24}, 25, {26}}};
+	{1, 2, 3}, {4, 5}, {6, {7}},
+	{{{{8, 9}, {10, 11}, 12, 13, 14, 15}, {16, 17}, 18, 19, 20, 21, 22, 23}, 24, {25}}};
 static const struct pierstrand_fresh set_fresh = {
-	1, {{2, 3, 4}, {5, 6}, {{7, 8}, 9}, {{{{10, 11}, {12, 13}, 14, 15, 16, 17}, {18, 19}, 20, 21, 22, 23, 24, 25}, 26, {27}}}};
+	1, {{2, 3, 4}, {5, 6}, {7, {8}},
+	    {{{{9, 10}, {11, 12}, 13, 14, 15, 16}, {17, 18}, 19, 20, 21, 22, 23, 24}, 25, {26}}}};
 
 static const struct pierstrand_message set_message = {1, 2, 3, 4, 5, 6, 7, 8, 9, 10, 11, 12, 13, 14};
 static const struct pierstrand_transport set_transport = {1, {2, 3, 4, 5, 6, 7, 8, 9, 10, 11, 12, 13, 14, 15}, 16, 17};
@@ -169,7 +171,8 @@ static void same(const struct shape *s, const void *one, const void *other)
 #define LONG_BITS (3 + 8 * 264 + 100)
 #define LONG_FIELDS 0, INDIVIDUAL, 1, 0x654321, MNI, 18, 22, 0x2B3C5D
 #define SHORT_BITS 13
-#define SHORT_FIELDS 0, GROUP, 2, 0, MNI, 15, 33, 0x1A2A55A5A
+#define SHORT_TO(ssi) 0, ssi, 2, 0, MNI, 15, 33, 0x1A2A55A5A
+#define SHORT_FIELDS SHORT_TO(GROUP)
 #define NO_FIELDS 0, 0, 0, 0, 0, 0, 0, 0
 #define HEADER_BYTES (PIERSTRAND_SCH_S + PIERSTRAND_SCH_H)
 
@@ -441,8 +444,31 @@ static uint64_t half(const uint8_t *both, size_t from)
 
 /* An SCH/H without its countdown, two bits at `bit`: two numbers of 64 bits. */
 #define RAW(both, bit) half(both, 0) & ~((uint64_t)3 << (62 - (bit))), half(both, 8)
-#define SHORT_RAW RAW(short_header, 12)
+#define UNFRAGMENTED_RAW(both) RAW(both, 12)
+#define SHORT_RAW UNFRAGMENTED_RAW(short_header)
 #define LONG_RAW RAW(long_header, 16)
+
+/*
+ * Earlier headers: how many, and three numbers of each, its SCH/H without the countdown and the countdown of a copy
+ * in the next slot; 0 after them.
+ */
+#define NEARS 7
+#define PLACES (3 * NEARS)
+#define NEAR(count, ...) count, ((const uint64_t[PLACES]){__VA_ARGS__})
+#define NO_NEAR NEAR(0, 0)
+
+/* The numbers of all places. */
+static void places_have(const uint64_t *numbers)
+{
+	const uint8_t *places = in(&receivers[0]) + offsetof(struct pierstrand_receiver, near.places);
+
+	for (size_t i = 0; i < PLACES; i++) {
+		uint64_t place;
+
+		memcpy(&place, places + i * sizeof place, sizeof place);
+		IS(place, numbers[i]);
+	}
+}
 
 /* The first `bits` of the text, and 0 after them. */
 static void store_has(size_t bits)
@@ -507,35 +533,103 @@ static void reads(void)
 #define SETTINGS INDIVIDUAL, GROUP, MNI
 #define NO_ASSEMBLY NO_FIELDS, 0, 0, 0, 0, 0, 0, 0, 0, 0, 0
 #define LONG_OPEN(again, kept, bits) LONG_FIELDS, LONG_RAW, 1, again, 8, 13, 3, kept, bits, 0
-#define RECEIVER_HOLDS(...) HOLDS(receiver, in(&receivers[0]), SETTINGS, __VA_ARGS__)
+#define RECEIVER_HOLDS(...) RECEIVER_HAS(__VA_ARGS__) /* so that NEAR is two of them */
+#define RECEIVER_HAS(frame, slot, count, places, ...) do { \
+	HOLDS(receiver, in(&receivers[0]), SETTINGS, frame, slot, count, 0, __VA_ARGS__); \
+	places_have(places); \
+} while (0)
+
+/* The short message's header in another place, to this address, for the first `bits` of the text. */
+static void put_header(uint8_t *both, uint8_t frame, uint8_t slot, uint8_t countdown, uint32_t to, size_t bits)
+{
+	struct pierstrand_sync s = short_sync;
+	struct pierstrand_fields f = short_fields;
+
+	s.frame = frame;
+	s.slot = slot - 1;
+	f.destination.ssi = to;
+	IS(pierstrand_build(s, countdown, f, bits, text, sizeof text, both, HEADER_BYTES).fault, 0);
+}
+
+/* Two messages by turns: each one's copy comes after a header of the other. */
+static void hears_two(void)
+{
+	uint8_t one[HEADER_BYTES], other[HEADER_BYTES];
+
+	put_header(one, 13, 1, 1, GROUP, SHORT_BITS);
+	put_header(other, 13, 3, 3, INDIVIDUAL, SHORT_BITS - 1);
+	HOLDS(answer, HEARD(13, 1, one), PIERSTRAND_UNFRAGMENTED, 0, 0, SHORT_BITS, SHORT_FIELDS);
+	RECEIVER_HOLDS(13, 1, NEAR(1, SHORT_RAW, 1), NO_ASSEMBLY);
+	HOLDS(answer, HEARD(13, 3, other), PIERSTRAND_UNFRAGMENTED, 0, 0, SHORT_BITS - 1, SHORT_TO(INDIVIDUAL));
+	RECEIVER_HOLDS(13, 3, NEAR(2, SHORT_RAW, 0, UNFRAGMENTED_RAW(other), 2), NO_ASSEMBLY);
+	put_header(one, 14, 1, 0, GROUP, SHORT_BITS);
+	put_header(other, 14, 3, 2, INDIVIDUAL, SHORT_BITS - 1);
+	HOLDS(answer, HEARD(14, 1, one), PIERSTRAND_COPY, 0, 0, 0, NO_FIELDS);
+	RECEIVER_HOLDS(14, 1, NEAR(2, SHORT_RAW, 0, UNFRAGMENTED_RAW(other), 2), NO_ASSEMBLY);
+	HOLDS(answer, HEARD(14, 3, other), PIERSTRAND_COPY, 0, 0, 0, NO_FIELDS);
+	RECEIVER_HOLDS(14, 3, NEAR(1, UNFRAGMENTED_RAW(other), 1), NO_ASSEMBLY);
+
+	/* The first one can have no copy any more: it is a message again, and has none in a new frame. */
+	put_header(one, 15, 3, 0, GROUP, SHORT_BITS);
+	HOLDS(answer, SILENCE(15, 1), PIERSTRAND_NOTHING, 0, 0, 0, NO_FIELDS);
+	HOLDS(answer, HEARD(15, 3, one), PIERSTRAND_UNFRAGMENTED, 0, 0, SHORT_BITS, SHORT_FIELDS);
+	RECEIVER_HOLDS(15, 3, NEAR(1, UNFRAGMENTED_RAW(other), 0), NO_ASSEMBLY);
+}
+
+/* Seven messages in seven slots fill all places. A copy of the first; with its frame the first two go out. A break. */
+static void hears_seven(void)
+{
+	uint8_t both[HEADER_BYTES];
+	uint64_t places[PLACES + 2 * 3] = {0};
+
+	for (uint8_t i = 0; i < NEARS; i++) {
+		uint8_t frame = 13 + i / 2, slot = i % 2 ? 3 : 1;
+		uint32_t to = i % 2 ? INDIVIDUAL : GROUP;
+
+		put_header(both, frame, slot, 3, to, SHORT_BITS - i);
+		memcpy(places + 3 * i, (const uint64_t[]){UNFRAGMENTED_RAW(both), 3}, 3 * sizeof places[0]);
+		for (size_t k = 0; k <= i && slot == 3; k++)
+			places[3 * k + 2]--;
+		HOLDS(answer, HEARD(frame, slot, both), PIERSTRAND_UNFRAGMENTED, 0, 0, SHORT_BITS - i, SHORT_TO(to));
+		RECEIVER_HOLDS(frame, slot, i + 1, places, NO_ASSEMBLY);
+	}
+	put_header(both, 16, 3, 0, GROUP, SHORT_BITS);
+	HOLDS(answer, HEARD(16, 3, both), PIERSTRAND_COPY, 0, 0, 0, NO_FIELDS);
+	for (size_t k = 2; k < NEARS; k++)
+		places[3 * k + 2]--;
+	RECEIVER_HOLDS(16, 3, NEARS - 2, places + 2 * 3, NO_ASSEMBLY);
+	HOLDS(answer, SILENCE(13, 1), PIERSTRAND_NOTHING, 0, 0, 0, NO_FIELDS);
+	RECEIVER_HOLDS(13, 1, NO_NEAR, NO_ASSEMBLY);
+}
 
 static void hears(void)
 {
 	uint8_t in_slot_1[sizeof short_header];
 	const uint8_t *it;
 
-	HOLDS(fresh, fresh_of(1 << 24, 1, 2), PIERSTRAND_RANGE, 0, 0, 0, 0, 0, 0, 0, 0, NO_ASSEMBLY);
+	HOLDS(fresh, fresh_of(1 << 24, 1, 2), PIERSTRAND_RANGE, 0, 0, 0, 0, 0, 0, 0, NO_ASSEMBLY);
 	it = fresh_of(SETTINGS);
-	HOLDS(fresh, it, 0, SETTINGS, 0, 0, 0, 0, 0, NO_ASSEMBLY);
+	HOLDS(fresh, it, 0, SETTINGS, 0, 0, 0, 0, NO_ASSEMBLY);
 	fill(receivers);
 	for (int k = 0; k < 2; k++)
 		memcpy(in(&receivers[k]), it + offsetof(struct pierstrand_fresh, receiver), sizeof (struct pierstrand_receiver));
+	RECEIVER_HOLDS(0, 0, NO_NEAR, NO_ASSEMBLY);
 	store_has(0);
 	if (wrong)
 		return;
 	plain.receiver = pierstrand_fresh(SETTINGS).receiver;
 
-	/* The short message: the nearest header, and no assembly. Then a break. */
+	/* The short message: its header is kept, and no assembly. Then a break. */
 	HOLDS(answer, HEARD(13, 3, short_header), PIERSTRAND_UNFRAGMENTED, 0, 0, SHORT_BITS, SHORT_FIELDS);
-	RECEIVER_HOLDS(13, 3, SHORT_RAW, 3, NO_ASSEMBLY);
+	RECEIVER_HOLDS(13, 3, NEAR(1, SHORT_RAW, 1), NO_ASSEMBLY);
 	HOLDS(answer, SILENCE(12, 3), PIERSTRAND_NOTHING, 0, 0, 0, NO_FIELDS);
-	RECEIVER_HOLDS(12, 3, 0, 0, 0, NO_ASSEMBLY);
+	RECEIVER_HOLDS(12, 3, NO_NEAR, NO_ASSEMBLY);
 
 	/* The long one begins, and the short one comes between. */
 	HOLDS(answer, HEARD(13, 1, long_header), PIERSTRAND_OPENED, 0, 0, 0, NO_FIELDS);
-	RECEIVER_HOLDS(13, 1, LONG_RAW, 4, LONG_OPEN(4, 0, 3));
+	RECEIVER_HOLDS(13, 1, NO_NEAR, LONG_OPEN(4, 0, 3));
 	HOLDS(answer, HEARD(13, 3, short_header), PIERSTRAND_UNFRAGMENTED, 0, 0, SHORT_BITS, SHORT_FIELDS);
-	RECEIVER_HOLDS(13, 3, SHORT_RAW, 3, LONG_OPEN(4, 0, 3));
+	RECEIVER_HOLDS(13, 3, NEAR(1, SHORT_RAW, 1), LONG_OPEN(4, 0, 3));
 	store_has(3);
 
 	/* Refused: the receiver is as before. */
@@ -543,17 +637,21 @@ static void hears(void)
 	HOLDS(answer, answer_of(14, 2, PIERSTRAND_SILENCE, text, 0, PIERSTRAND_MESSAGE), 0, 0, PIERSTRAND_REPORT_SLOT, 0, NO_FIELDS);
 	HOLDS(answer, answer_of(14, 1, PIERSTRAND_SILENCE, text, 1, PIERSTRAND_MESSAGE), 0, 0, PIERSTRAND_LENGTH, 0, NO_FIELDS);
 	HOLDS(answer, answer_of(14, 1, PIERSTRAND_SILENCE, text, 0, PIERSTRAND_MESSAGE - 1), 0, 0, PIERSTRAND_BUFFER, 0, NO_FIELDS);
-	RECEIVER_HOLDS(13, 3, SHORT_RAW, 3, LONG_OPEN(4, 0, 3));
+	RECEIVER_HOLDS(13, 3, NEAR(1, SHORT_RAW, 1), LONG_OPEN(4, 0, 3));
 	store_has(3);
 
 	/* A header that names another frame; then nothing, up to the first due slot. */
 	HOLDS(answer, HEARD(14, 1, long_header), PIERSTRAND_NOTHING, 0, PIERSTRAND_PLACE, 0, NO_FIELDS);
+	RECEIVER_HOLDS(14, 1, NEAR(1, SHORT_RAW, 1), LONG_OPEN(3, 0, 3));
 	SILENCE(14, 3);
+	RECEIVER_HOLDS(14, 3, NEAR(1, SHORT_RAW, 0), LONG_OPEN(3, 0, 3));
 	SILENCE(15, 1);
+	RECEIVER_HOLDS(15, 1, NEAR(1, SHORT_RAW, 0), LONG_OPEN(2, 0, 3));
 	SILENCE(15, 3);
+	RECEIVER_HOLDS(15, 3, NO_NEAR, LONG_OPEN(2, 0, 3));
 	SILENCE(16, 1);
 	HOLDS(answer, SILENCE(16, 3), PIERSTRAND_NOTHING, 0, 0, 0, NO_FIELDS);
-	RECEIVER_HOLDS(16, 3, SHORT_RAW, 0, LONG_OPEN(1, 0, 3));
+	RECEIVER_HOLDS(16, 3, NO_NEAR, LONG_OPEN(1, 0, 3));
 
 	/* Its blocks: frame 17, then 1 to 8. */
 	for (uint8_t i = 0; i < 9; i++) {
@@ -564,7 +662,7 @@ static void hears(void)
 		if (i == 8)
 			break;
 		HOLDS(answer, it, PIERSTRAND_KEPT, 0, 0, 0, NO_FIELDS);
-		RECEIVER_HOLDS(frame, 1, SHORT_RAW, 0, LONG_OPEN(0, i + 1, 3 + 264 * (i + 1)));
+		RECEIVER_HOLDS(frame, 1, NO_NEAR, LONG_OPEN(0, i + 1, 3 + 264 * (i + 1)));
 		store_has(3 + 264 * ((size_t)i + 1));
 		SILENCE(frame, 3);
 		if (frame == 17) {
@@ -573,17 +671,22 @@ static void hears(void)
 		}
 	}
 	HOLDS(answer, it, PIERSTRAND_JOINED, 0, 0, LONG_BITS, LONG_FIELDS);
-	RECEIVER_HOLDS(8, 1, SHORT_RAW, 0, NO_ASSEMBLY);
+	RECEIVER_HOLDS(8, 1, NO_NEAR, NO_ASSEMBLY);
 	store_has(0);
 
 	/* After a break the short one in slot 1, and its copy in slot 3; then an assembly that a break drops. */
 	memcpy(in_slot_1, short_header, sizeof in_slot_1);
 	in_slot_1[1] ^= 8;
 	HOLDS(answer, HEARD(13, 1, in_slot_1), PIERSTRAND_UNFRAGMENTED, 0, 0, SHORT_BITS, SHORT_FIELDS);
+	RECEIVER_HOLDS(13, 1, NEAR(1, SHORT_RAW, 2), NO_ASSEMBLY);
 	HOLDS(answer, HEARD(13, 3, short_header), PIERSTRAND_COPY, 0, 0, 0, NO_FIELDS);
+	RECEIVER_HOLDS(13, 3, NEAR(1, SHORT_RAW, 1), NO_ASSEMBLY);
 	HOLDS(answer, HEARD(13, 1, long_header), PIERSTRAND_OPENED, 0, 0, 0, NO_FIELDS);
+	RECEIVER_HOLDS(13, 1, NO_NEAR, LONG_OPEN(4, 0, 3));
 	HOLDS(answer, SILENCE(14, 1), PIERSTRAND_NOTHING, 1, 0, 0, NO_FIELDS);
-	RECEIVER_HOLDS(14, 1, 0, 0, 0, NO_ASSEMBLY);
+	RECEIVER_HOLDS(14, 1, NO_NEAR, NO_ASSEMBLY);
+	hears_two();
+	hears_seven();
 }
 
 static void transports(void)

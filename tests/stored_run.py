@@ -78,9 +78,14 @@ def reports():
     r.header("for this unit, no copy", 16, countdown=1)
     r.header("its repeat, one frame later, is a copy", 16)
     r.header("the same with the same countdown, no frame gone by: a copy", 16)
-    r.header("with another message it is none", 20)
-    r.at((9, 1))
-    r.header("after a break it is none", 20)
+    r.header("with another message it is none", 20, countdown=1)
+    r.header("the first message, its countdown not fallen with the frames: no copy", 16, countdown=2)
+    r.header("the other message's repeat, the first between: a copy", 20)
+    r.header("the first message's repeat, the other between: a copy", 16, countdown=1)
+    r.header("a run of two blocks opens", 400, countdown=1)
+    r.header("the first message's repeat, a fragmented header between: a copy", 16)
+    r.at((7, 3))
+    r.header("the same report twice is a break: no copy, and the run is dropped", 16)
     r.header("for the group", 16, to=GROUP)
     r.header("for another unit", 16, to=UNIT + 1)
     r.header("another network", 16, mni=MNI + 1)
@@ -143,6 +148,10 @@ def reports():
     blocks = r.header("a run of one block opens", 250)
     r.nothing("slot 3")
     r.block("a block with a fault in the due slot: fault 12, dropped", bytes([blocks[0][0] ^ 0x80]) + blocks[0][1:])
+    r.at((14, 1))
+    for n in range(1, 8):
+        r.header("one of seven messages, each in a slot of its own", n, countdown=3)
+    r.header("the first of the seven again, three frames later: a copy", 1)
     return r.reports
 
 

@@ -127,6 +127,16 @@ struct dm_answer {
 	struct dm_fields fields;
 };
 
+/* The most headers that can be repeated. A countdown is at most 3, so they are of the last four
+   frames: before a report in slot 3, two of each of the three frames before and one of its own. */
+#define DM_EARLIER 7
+
+/* An unfragmented header, countdown cleared. A copy has one less than `left` as its countdown. */
+struct dm_earlier {
+	uint8_t left;
+	uint8_t sch_h[DM_SCH_H];
+};
+
 struct dm_receiver {
 	uint32_t individual;
 	uint32_t group;
@@ -136,13 +146,12 @@ struct dm_receiver {
 	uint8_t frame;
 	uint8_t slot;
 
-	/* The nearest unfragmented header for this unit, countdown cleared. A copy has one less
-	   than `near_left` as its countdown; 0: no header can be a copy. */
-	uint8_t near_left;
-	uint8_t near[DM_SCH_H];
+	/* The headers for this unit that can be repeated, each once, in the first of the places. */
+	uint8_t earlier_count;
+	struct dm_earlier earlier[DM_EARLIER];
 
 	/* The open assembly. `due` is the frame of its next block, 0 when none is open. The
-	   header is kept as above. The store is zero beyond `bits`. */
+	   header is kept as those above. The store is zero beyond `bits`. */
 	uint8_t due;
 	uint8_t to_come;
 	uint8_t head_left;

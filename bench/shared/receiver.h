@@ -56,6 +56,15 @@ static uint8_t report_fault(const struct dm_report *report, size_t room)
 	return 0;
 }
 
+/* A frame goes by. The last header, counted already, takes the place of one that cannot be
+   repeated any more. */
+static void count_down(struct dm_receiver *r)
+{
+	for (unsigned i = r->earlier_count; i-- > 0;)
+		if (--r->earlier[i].left == 0)
+			r->earlier[i] = r->earlier[--r->earlier_count];
+}
+
 /* Goes on to the report's place. At a break an open assembly is dropped (1), and nothing
    heard before can be repeated. */
 static uint8_t go_on(struct dm_receiver *r, unsigned frame, unsigned slot)
@@ -64,10 +73,10 @@ static uint8_t go_on(struct dm_receiver *r, unsigned frame, unsigned slot)
 	unsigned next = r->slot == 1 ? r->frame : r->frame % FRAMES + 1u;
 
 	if (r->frame && (frame != next || slot == r->slot)) {
-		r->near_left = 0;
+		r->earlier_count = 0;
 		dropped = drop(r);
 	} else if (slot == 1) {
-		r->near_left -= r->near_left > 0;
+		count_down(r);
 		r->head_left -= r->head_left > 0;
 	}
 	r->frame = frame;
@@ -97,7 +106,6 @@ static void on_fragmented(struct dm_receiver *r, const struct dm_header *header,
 	if (!for_unit(r, &header->fields))
 		return;
 
-	r->near_left = 0;
 	r->due = first_due(r->frame, header->countdown);
 	r->to_come = header->count;
 	r->head_left = header->countdown + 1;
@@ -108,23 +116,47 @@ static void on_fragmented(struct dm_receiver *r, const struct dm_header *header,
 	answer->outcome = DM_OPENED;
 }
 
+/* Whether a header repeats an earlier one; its countdown is cleared in `head`. */
+static int is_copy(const struct dm_receiver *r, unsigned left, const uint8_t *head)
+{
+	const struct dm_earlier *e = r->earlier, *end = e + r->earlier_count;
+
+	for (; e < end; e++)
+		if (e->left == left && !memcmp(e->sch_h, head, DM_SCH_H))
+			return 1;
+	return 0;
+}
+
+/* Keeps a header that is no copy. With all places taken this is slot 3, and the two of three
+   frames ago cannot be repeated after it: one of them gives way. */
+static void keep(struct dm_receiver *r, unsigned left, const uint8_t *head)
+{
+	struct dm_earlier *e = r->earlier;
+
+	if (r->earlier_count < DM_EARLIER)
+		e += r->earlier_count++;
+	else
+		while (e->left > 1)
+			e++;
+	e->left = left;
+	memcpy(e->sch_h, head, DM_SCH_H);
+}
+
 static void on_unfragmented(struct dm_receiver *r, const struct dm_header *header,
 			    const uint8_t *sch_h, uint8_t *message, struct dm_answer *answer)
 {
-	uint8_t near[DM_SCH_H];
-	int copy;
+	uint8_t head[DM_SCH_H];
+	unsigned left = header->countdown + 1;
 
 	if (!for_unit(r, &header->fields))
 		return;
-	memcpy(near, sch_h, DM_SCH_H);
-	clear_countdown(near, 0);
-	copy = r->near_left == header->countdown + 1 && !memcmp(near, r->near, DM_SCH_H);
-	r->near_left = header->countdown + 1;
-	memcpy(r->near, near, DM_SCH_H);
-	if (copy) {
+	memcpy(head, sch_h, DM_SCH_H);
+	clear_countdown(head, 0);
+	if (is_copy(r, left, head)) {
 		answer->outcome = DM_COPY;
 		return;
 	}
+	keep(r, left, head);
 	answer->outcome = DM_UNFRAGMENTED;
 	answer->bits = header->bits;
 	answer->fields = header->fields;

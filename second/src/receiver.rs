@@ -244,11 +244,11 @@ impl Receiver {
         message
     }
 
-    /// Rule 4: the nearest earlier well-formed header for this unit is repeated.
+    /// Rule 4: any earlier well-formed header for this unit is repeated.
     fn is_copy(&self, now: usize) -> bool {
         let earliest = now.saturating_sub(REPORTS_TO_LAST_REPEAT);
-        let nearest = (earliest..now).rev().find(|&at| self.is_for_this_unit(at));
-        nearest.is_some_and(|earlier| self.repeats(earlier, now))
+        let mut ours = (earliest..now).filter(|&at| self.is_for_this_unit(at));
+        ours.any(|earlier| self.repeats(earlier, now))
     }
 
     /// Rule 4's comparison of two headers: no break since, the same SCH/H bits but for the
@@ -508,6 +508,15 @@ mod tests {
     }
 
     #[test]
+    fn the_mark_looks_at_the_open_assemblys_header_alone() {
+        let mut air = Air::at(17, 1);
+        assert_eq!(air.header(1, 300, 2), OPENED_NEW);
+        assert_eq!(air.header(2, 300, 2), (3, 1, 0, 0));
+        assert_eq!(air.header(1, 300, 1), (3, 1, 0, 0), "an earlier one's");
+        assert_eq!(air.header(1, 300, 1), OPENED_NEW, "its own");
+    }
+
+    #[test]
     fn copies() {
         let mut air = Air::at(18, 1);
         assert_eq!(air.header(1, 5, 3).0, 1);
@@ -522,10 +531,122 @@ mod tests {
         assert_eq!(air.header(1, 6, 1).0, 1);
         assert_eq!(
             air.header(1, 5, 0).0,
-            1,
+            5,
             "another header for this unit between"
         );
         assert_eq!(air.header(1, 5, 1).0, 1, "the countdown does not fit");
+    }
+
+    /// The outcomes of headers one slot after the other: a message's letter, and the countdown.
+    fn told(headers: &str) -> String {
+        let mut air = Air::at(17, 1);
+        let outcomes = headers.split(' ').map(|header| {
+            let (letter, countdown) = (header.as_bytes()[0], header.as_bytes()[1]);
+            let n = u64::from(letter - b'a');
+            let (outcome, dropped, fault, bits) = air.header(1, n, u64::from(countdown - b'0'));
+            assert_eq!((dropped, fault), (0, 0));
+            assert_eq!(bits, if outcome == 1 { n as usize } else { 0 });
+            char::from(b'0' + outcome)
+        });
+        outcomes.collect()
+    }
+
+    #[test]
+    fn two_senders_in_turn() {
+        assert_eq!(told("a1 b1 a0"), "115");
+        assert_eq!(told("a3 b3 a2 b2 a1 b1 a0 b0"), "11555555");
+        assert_eq!(told("a1 b2 a0 b1 b0 a0 b0"), "1155511");
+        assert_eq!(told("a3 b3 b2 b2 b1 b1 b0 a0"), "11555555");
+    }
+
+    #[test]
+    fn three_senders_in_turn() {
+        assert_eq!(told("a3 b3 c3 a2 b1 c2 a0 b0"), "11155555");
+        assert_eq!(told("a3 b3 c3 a3 b2 c1 a1 b0"), "11111155");
+    }
+
+    /// Seven headers, each in a slot of its own, and then those that still can come again.
+    #[test]
+    fn seven_senders_in_turn() {
+        let seven = "a3 b3 c3 d3 e3 f3 g3";
+        for again in ["a0", "b0", "c1", "d1", "e2", "f2", "g3"] {
+            assert_eq!(told(&format!("{seven} {again}")), "11111115", "{again}");
+        }
+        for misfit in ["a1", "b3", "c0", "d2", "e1", "f3", "g2"] {
+            assert_eq!(told(&format!("{seven} {misfit}")), "11111111", "{misfit}");
+        }
+        let all = format!("{seven} a0 c0 d0 e0 f0 g0 g0");
+        assert_eq!(told(&all), "11111115555555");
+    }
+
+    /// The same header with a countdown that fits none is handed over, and later ones fit either.
+    #[test]
+    fn copies_of_one_message_sent_twice() {
+        assert_eq!(told("a3 a3 a3 a2 a1 a2 a0 a1"), "15155555");
+        assert_eq!(told("a3 a3 a3 a2 a0 a3 a2 a0"), "15151155");
+        assert_eq!(told("a3 b3 a3 b3 a2 b2 a0 b0 a0 b0"), "1111555555");
+    }
+
+    #[test]
+    fn nothing_fits_once_the_countdown_has_run_out() {
+        assert_eq!(told("a0 b0 a0 b0"), "1111");
+        assert_eq!(told("a1 b3 a0 b2 a0"), "11551");
+        assert_eq!(told("a2 b3 a1 b2 a0 b1 a0"), "1155551");
+        assert_eq!(told("a3 b3 a2 b2 a1 b1 a0 b0 a0"), "115555551");
+    }
+
+    #[test]
+    fn a_break_forgets_every_header() {
+        let mut air = Air::at(17, 1);
+        assert_eq!(air.header(1, 5, 3).0, 1);
+        assert_eq!(air.header(1, 6, 3).0, 1);
+        assert_eq!(air.header(1, 5, 2).0, 5);
+        (air.frame, air.slot) = (1, 1);
+        assert_eq!(air.header(1, 6, 1).0, 1, "a slot left out");
+        assert_eq!(air.header(1, 5, 1).0, 1);
+        assert_eq!(air.header(1, 6, 0).0, 5);
+        assert_eq!(air.header(1, 5, 0).0, 5);
+        (air.frame, air.slot) = (2, 3);
+        assert_eq!(air.header(1, 5, 0).0, 1, "told of twice");
+    }
+
+    #[test]
+    fn what_comes_between_two_copies() {
+        let with = |between: fn(&mut Air) -> (u8, u8, u8, usize)| {
+            let mut air = Air::at(17, 3);
+            assert_eq!(air.header(1, 5, 2).0, 1);
+            (between(&mut air), air.header(1, 5, 1))
+        };
+        let copy = (5, 0, 0, 0);
+        assert_eq!(with(|air| air.header(1, 300, 3)), (OPENED_NEW, copy));
+        assert_eq!(with(|air| air.header(7, 300, 3)), (UNTOUCHED, copy));
+        assert_eq!(with(|air| air.header(7, 5, 1)), (UNTOUCHED, copy));
+        assert_eq!(with(|air| air.header(2, 5, 1)), ((1, 0, 0, 5), copy));
+        assert_eq!(with(|air| air.header(1, 5, 0)), ((1, 0, 0, 5), copy));
+        assert_eq!(with(|air| air.tell(1, &[])), (UNTOUCHED, copy));
+        assert_eq!(with(|air| air.block(300, 0)), (UNTOUCHED, copy));
+        assert_eq!(with(|air| air.tell(2, &[0; 24])), ((0, 0, 3, 0), copy));
+    }
+
+    /// Nor is one that reads with a fault, or whose report was refused.
+    #[test]
+    fn a_header_for_another_unit_is_no_earlier_one() {
+        let mut air = Air::at(17, 1);
+        assert_eq!(air.header(7, 5, 3), UNTOUCHED);
+        assert_eq!(air.header(7, 5, 3), UNTOUCHED);
+        assert_eq!(air.header(1, 5, 2), (1, 0, 0, 5));
+        let mut damaged = sent(1, 6, 2, 18, 3);
+        damaged[23] |= 1;
+        assert_eq!(air.tell(2, &damaged[..24]), (0, 0, 2, 0));
+        assert_eq!(air.header(1, 6, 1), (1, 0, 0, 6));
+        let refused = Report {
+            frame: 1,
+            slot: 2,
+            kind: 2,
+            blocks: &sent(1, 7, 1, 1, 1)[..24],
+        };
+        assert_eq!(air.receiver.report(&refused, &mut air.buffer).fault, 16);
+        assert_eq!(air.header(1, 7, 1), (1, 0, 0, 7));
     }
 
     #[test]

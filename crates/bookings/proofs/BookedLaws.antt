@@ -10,6 +10,7 @@ use native.Mathlib.Omega.{arith}
 use lib.ListN.{length, take}
 use lib.Seq.{take-all, take-append-le, take-append-add}
 use Rattle.history.specs.Line.{Line, start, _▸_, _⧺_, Every}
+use Rattle.history.proofs.Lines.{⧺-assoc}
 use Rattle.bookings.specs.Pairs.{Pair, In, among, last32, entering, booked, since, IsAgain, IsBooked, On}
 use Rattle.bookings.specs.Pairs.{Different, times}
 use Rattle.bookings.proofs.PairLaws.{among-true, among-is, among-false, among-not, in-take, in-longer, in-right}
@@ -145,10 +146,6 @@ pub once-each : (ts : Line Pair) (ps : List Pair) → length ps ≤ 32 → Every
 once-each ts ps l h p o = times-one p (booked ts) (few-different ts ps l h) (on-booked ts p o)
 
 -- ---- one transfer heard again and again
-
-pub ⧺-assoc : {A : Type 0} (ts us vs : Line A) → ts ⧺ (us ⧺ vs) ≡ (ts ⧺ us) ⧺ vs
-⧺-assoc ts us start = refl
-⧺-assoc {A = A} ts us (vs ▸ q) = ap (λ (l : Line A). l ▸ q) (⧺-assoc ts us vs)
 
 pub since-append : (ts us vs : Line Pair) → since ts (us ⧺ vs) ≡ since (ts ⧺ us) vs ++ since ts us
 since-append ts us start = refl

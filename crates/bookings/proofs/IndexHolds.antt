@@ -4,13 +4,14 @@ use Prim.Native.Nat.{_≤_, _<_}
 use native.Mathlib.Omega.{arith}
 use lib.ListN.{length, length-take}
 use Rattle.history.specs.Line.{Line, start, _▸_, _⧺_}
+use Rattle.history.proofs.Lines.{⧺-assoc}
 use Rattle.bookings.specs.Pairs.{Pair, last32, booked, since, IsAgain, IsBooked, times}
 use Rattle.bookings.specs.Kept.{recordOf, bookingsAt}
 use Rattle.bookings.specs.Book.{Transfer}
 use Rattle.bookings.specs.Calls.{Call, mark, pair, after, InTurn, marked, transfers}
 use Rattle.bookings.specs.Index.{OverTransfers, OverCalls}
 use Rattle.bookings.proofs.BookedLaws.{booked-new, booked-again, first-books, since-is, stays, stays-booked}
-use Rattle.bookings.proofs.BookedLaws.{since-again, ⧺-assoc, books-again, all-different, once-each, once-heard}
+use Rattle.bookings.proofs.BookedLaws.{since-again, books-again, all-different, once-each, once-heard}
 use Rattle.bookings.proofs.CallLaws.{earlier-in-turn, transfers-append, leads, leads-before, marks-since, marks}
 use Rattle.bookings.proofs.CallLaws.{booked-or-again, books-is, again-is, nothing-is, unchanged-is, one-reply}
 

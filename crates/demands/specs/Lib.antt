@@ -4,6 +4,7 @@ pub mod Demand2
 pub mod Calls
 pub mod Demand3
 pub mod Demand1
+pub mod Req03
 pub mod RunRows
 pub mod RunTable
 pub mod Run

@@ -8,14 +8,19 @@ table =
     row 3 3 2 0xd0086000000000000024001389000001c000e16f24166100 (1 ∷ 0 ∷ 0 ∷ 16 ∷ []) ∷  -- for this unit, no copy
     row 4 1 2 0xd0008000000000000020001389000001c000e16f24166100 (5 ∷ 0 ∷ 0 ∷ 0 ∷ []) ∷  -- its repeat, one frame later, is a copy
     row 4 3 2 0xd0088000000000000020001389000001c000e16f24166100 (5 ∷ 0 ∷ 0 ∷ 0 ∷ []) ∷  -- the same with the same countdown, no frame gone by: a copy
-    row 5 1 2 0xd000a000000000000020001389000001c000e16f241660b0 (1 ∷ 0 ∷ 0 ∷ 20 ∷ []) ∷  -- with another message it is none
-    row 9 1 2 0xd0012000000000000020001389000001c000e16f241660b0 (1 ∷ 0 ∷ 0 ∷ 20 ∷ []) ∷  -- after a break it is none
-    row 9 3 2 0xd0092000000000000020000384000001c000e16f24166100 (1 ∷ 0 ∷ 0 ∷ 16 ∷ []) ∷  -- for the group
-    row 10 1 2 0xd001400000000000002000138a000001c000e16f24166100 (0 ∷ 0 ∷ 0 ∷ 0 ∷ []) ∷  -- for another unit
-    row 10 3 2 0xd0094000000000000020001389000001c000e1af24166100 (0 ∷ 0 ∷ 0 ∷ 0 ∷ []) ∷  -- another network
-    row 11 1 2 0xd0016000000000000021001389000001c000e16f24166100 (0 ∷ 0 ∷ 0 ∷ 0 ∷ []) ∷  -- not a true address
-    row 11 3 2 0xd0084000000000000020001389000001c000e16f24166100 (0 ∷ 0 ∷ 18 ∷ 0 ∷ []) ∷  -- the block names another frame: fault 18
-    row 12 1 2 0xd0018000000000000020001389000001c000e16f24166101 (0 ∷ 0 ∷ 2 ∷ 0 ∷ []) ∷  -- a pad bit is set: fault 2
+    row 5 1 2 0xd000a000000000000024001389000001c000e16f241660b0 (1 ∷ 0 ∷ 0 ∷ 20 ∷ []) ∷  -- with another message it is none
+    row 5 3 2 0xd008a000000000000028001389000001c000e16f24166100 (1 ∷ 0 ∷ 0 ∷ 16 ∷ []) ∷  -- the first message, its countdown not fallen with the frames: no copy
+    row 6 1 2 0xd000c000000000000020001389000001c000e16f241660b0 (5 ∷ 0 ∷ 0 ∷ 0 ∷ []) ∷  -- the other message's repeat, the first between: a copy
+    row 6 3 2 0xd008c000000000000024001389000001c000e16f24166100 (5 ∷ 0 ∷ 0 ∷ 0 ∷ []) ∷  -- the first message's repeat, the other between: a copy
+    row 7 1 2 0xd000e0000000000000124001389000001c000e16f2416600 (3 ∷ 0 ∷ 0 ∷ 0 ∷ []) ∷  -- a run of two blocks opens
+    row 7 3 2 0xd008e000000000000020001389000001c000e16f24166100 (5 ∷ 0 ∷ 0 ∷ 0 ∷ []) ∷  -- the first message's repeat, a fragmented header between: a copy
+    row 7 3 2 0xd008e000000000000020001389000001c000e16f24166100 (1 ∷ 1 ∷ 0 ∷ 16 ∷ []) ∷  -- the same report twice is a break: no copy, and the run is dropped
+    row 8 1 2 0xd0010000000000000020000384000001c000e16f24166100 (1 ∷ 0 ∷ 0 ∷ 16 ∷ []) ∷  -- for the group
+    row 8 3 2 0xd009000000000000002000138a000001c000e16f24166100 (0 ∷ 0 ∷ 0 ∷ 0 ∷ []) ∷  -- for another unit
+    row 9 1 2 0xd0012000000000000020001389000001c000e1af24166100 (0 ∷ 0 ∷ 0 ∷ 0 ∷ []) ∷  -- another network
+    row 9 3 2 0xd0092000000000000021001389000001c000e16f24166100 (0 ∷ 0 ∷ 0 ∷ 0 ∷ []) ∷  -- not a true address
+    row 10 1 2 0xd0084000000000000020001389000001c000e16f24166100 (0 ∷ 0 ∷ 18 ∷ 0 ∷ []) ∷  -- the block names another frame: fault 18
+    row 10 3 2 0xd0094000000000000020001389000001c000e16f24166101 (0 ∷ 0 ∷ 2 ∷ 0 ∷ []) ∷  -- a pad bit is set: fault 2
     row 16 1 2 0xd00200000000000000124001389000001c000e16f2416600 (3 ∷ 0 ∷ 0 ∷ 0 ∷ []) ∷  -- a run of two blocks opens
     row 16 3 2 0xd00a00000000000000124001389000001c000e16f2416600 (3 ∷ 0 ∷ 0 ∷ 0 ∷ []) ∷  -- its repeat opens it again, nothing is dropped
     row 17 1 1 0 (0 ∷ 0 ∷ 0 ∷ 0 ∷ []) ∷  -- frame 17: a repeat is missed
@@ -66,4 +71,12 @@ table =
     row 11 1 2 0xd00160000000000000110001389000001c000e16f2416600 (3 ∷ 0 ∷ 0 ∷ 0 ∷ []) ∷  -- a run of one block opens
     row 11 3 1 0 (0 ∷ 0 ∷ 0 ∷ 0 ∷ []) ∷  -- slot 3
     row 12 1 3 0xfaaf53f89d21c66b0fb458fd8226cb7014b95de2872bd07519be42e78c3400000000 (0 ∷ 1 ∷ 12 ∷ 0 ∷ []) ∷  -- a block with a fault in the due slot: fault 12, dropped
+    row 14 1 2 0xd001c00000000000002c001389000001c000e16f24800000 (1 ∷ 0 ∷ 0 ∷ 1 ∷ []) ∷  -- one of seven messages, each in a slot of its own
+    row 14 3 2 0xd009c00000000000002c001389000001c000e16f24400000 (1 ∷ 0 ∷ 0 ∷ 2 ∷ []) ∷  -- one of seven messages, each in a slot of its own
+    row 15 1 2 0xd001e00000000000002c001389000001c000e16f24200000 (1 ∷ 0 ∷ 0 ∷ 3 ∷ []) ∷  -- one of seven messages, each in a slot of its own
+    row 15 3 2 0xd009e00000000000002c001389000001c000e16f24100000 (1 ∷ 0 ∷ 0 ∷ 4 ∷ []) ∷  -- one of seven messages, each in a slot of its own
+    row 16 1 2 0xd002000000000000002c001389000001c000e16f24180000 (1 ∷ 0 ∷ 0 ∷ 5 ∷ []) ∷  -- one of seven messages, each in a slot of its own
+    row 16 3 2 0xd00a000000000000002c001389000001c000e16f24140000 (1 ∷ 0 ∷ 0 ∷ 6 ∷ []) ∷  -- one of seven messages, each in a slot of its own
+    row 17 1 2 0xd002200000000000002c001389000001c000e16f24160000 (1 ∷ 0 ∷ 0 ∷ 7 ∷ []) ∷  -- one of seven messages, each in a slot of its own
+    row 17 3 2 0xd00a2000000000000020001389000001c000e16f24800000 (5 ∷ 0 ∷ 0 ∷ 0 ∷ []) ∷  -- the first of the seven again, three frames later: a copy
     []

@@ -8,7 +8,7 @@ use lib.Dec.{eqb, leb}
 use lib.ListN.{length, take, drop, length-append, length-take, length-drop}
 use lib.Seq.{take-at, drop-at, drop-drop}
 use borrow.Author.Tests.{eq-eqb, leb-true, leb-false}
-use Rattle.bits.specs.Bits.{bitsN, bitsOf, over}
+use Rattle.bits.specs.Bits.{testBit, bitsN, bitsOf, over}
 use Rattle.bits.specs.Layout.{Part, part, pack, partsWith}
 use Rattle.bits.specs.Runs.{joined}
 use Rattle.bits.proofs.Numbers.{length-bitsN}
@@ -76,20 +76,27 @@ module _ (f count : ℕ) (g : Fields) (m : List Bool) where
       (g .destination .kind ∷ g .destination .ssi ∷ g .source .kind ∷ g .source .ssi ∷ g .mni ∷ g .message ∷ g .elements
       ∷ [])
 
-  abbrev uncounted : List Bool
+  abbrev pub uncounted : List Bool
   uncounted = pack front ++ ((false ∷ false ∷ []) ++ (pack back ++ roomBits room m))
+
+  block-split : (c : ℕ) → headerBlock f count c g m ≡ pack front ++ (bitsN 2 c ++ (pack back ++ roomBits room m))
+  block-split c =
+      ap (λ (x : List Bool). x ++ roomBits room m) (pack-append front (part 2 c ∷ back))
+      ∙ append-assoc (pack front) (bitsN 2 c ++ pack back) (roomBits room m)
+      ∙ ap (λ (x : List Bool). pack front ++ x) (append-assoc (bitsN 2 c) (pack back) (roomBits room m))
+
+  -- it is that of countdown 0
+  pub block-none : headerBlock f count 0 g m ≡ uncounted
+  unfolding bitsN testBit
+  block-none = block-split 0
 
   block-uncounted : (c : ℕ) → over (12 + 4 * f) (false ∷ false ∷ []) (headerBlock f count c g m) ≡ uncounted
   block-uncounted c =
       let z = false ∷ false ∷ [] in
       let rest = pack back ++ roomBits room m in
       let lc = length-bitsN 2 c in
-      let split : headerBlock f count c g m ≡ pack front ++ (bitsN 2 c ++ rest) =
-      ap (λ (x : List Bool). x ++ roomBits room m) (pack-append front (part 2 c ∷ back))
-      ∙ append-assoc (pack front) (bitsN 2 c ++ pack back) (roomBits room m)
-      ∙ ap (λ (x : List Bool). pack front ++ x) (append-assoc (bitsN 2 c) (pack back) (roomBits room m)) in
       let at : 12 + 4 * f ≡ length (pack front) + 0 = omega (arith, length-pack front) in
-      ap₂ (λ (n : ℕ) (x : List Bool). over n z x) at split
+      ap₂ (λ (n : ℕ) (x : List Bool). over n z x) at (block-split c)
       ∙ over-right 0 z (pack front) (bitsN 2 c ++ rest)
       ∙ ap (λ (x : List Bool). pack front ++ x)
       (over-left 0 z (bitsN 2 c) rest (omega arith)
@@ -195,10 +202,10 @@ flag-when false h n f e =
     (λ z. absurd (omega arith), λ z. refl)
 
 module _ (m : Message) where
-  abbrev flag : ℕ
+  abbrev pub flag : ℕ
   flag = fragmentedFor (m .fields) (m .n)
 
-  abbrev inside : ℕ
+  abbrev pub inside : ℕ
   inside = inHeader (headerBits (m .fields)) (m .n)
 
   abbrev back-as : Sync → ℕ → ℕ → read.Header
@@ -289,17 +296,26 @@ module _ (m : Message) where
         sym (take-at x (joined (blockBits (schFs (k m) out))) inside e)
         ∙ ap (take inside) joined-is
 
+    block-is : bitsOf (schH out) ≡ headerBlock flag (k m) (b .countdown) (m .fields) (take inside (bits m))
+    block-is =
+        ap (λ (o : List ℕ). bitsOf (schH o)) out-is
+        ∙ header-bits (bits m) whole rest
+        ∙ ap (λ (n : ℕ). headerBlock (fragmentedFor (m .fields) n) (blocksFor (m .fields) n) (b .countdown) (m .fields)
+        (take (inHeader (headerBits (m .fields)) n) (bits m))) all-bits
+
+    -- what it reads as, by these bits
+    pub fields-read : (y : Sync)
+        → headerOf y (headerBlock flag (k m) (b .countdown) (m .fields) (take inside (bits m))) .fields ≡ m .fields
+    fields-read y =
+        ap (λ (x : List Bool). headerOf y x .fields) (sym block-is)
+        ∙ ap (λ (r : read.Header). r .fields) (sym (read-as (schS out) (schH out) good) ∙ header-read)
+
     raw-is : rawOf (schH out) ≡ halves (uncounted flag (k m) (m .fields) (take inside (bits m)))
     raw-is =
         let f : fragmentedIn (bitsOf (schH out)) ≡ flag = flag-read (schS out) (schH out) good
         ∙ ap (λ (r : read.Header). r .fragmented) header-read in
-        let h : bitsOf (schH out) ≡ headerBlock flag (k m) (b .countdown) (m .fields) (take inside (bits m)) =
-        ap (λ (o : List ℕ). bitsOf (schH o)) out-is
-        ∙ header-bits (bits m) whole rest
-        ∙ ap (λ (n : ℕ). headerBlock (fragmentedFor (m .fields) n) (blocksFor (m .fields) n) (b .countdown) (m .fields)
-        (take (inHeader (headerBits (m .fields)) n) (bits m))) all-bits in
         ap halves
-        (ap₂ (λ (n : ℕ) (x : List Bool). over (12 + 4 * n) (false ∷ false ∷ []) x) f h
+        (ap₂ (λ (n : ℕ) (x : List Bool). over (12 + 4 * n) (false ∷ false ∷ []) x) f block-is
         ∙ block-uncounted flag (k m) (m .fields) (take inside (bits m)) (b .countdown))
 
     out-length : 24 + 34 * k m ≤ length out
@@ -314,11 +330,14 @@ module _ (m : Message) where
     length-s : length (schS out) ≡ 8
     length-s = let l = out-length in rw (length-take 8 out) (omega arith)
 
+    length-h : length (schH out) ≡ 16
+    length-h = let l = out-length in rw (length-take 16 (drop 8 out), length-drop 8 out) (omega arith)
+
     pub length-header : length (schS out ++ schH out) ≡ 24
-    length-header =
-        let l = out-length in
-        let h : length (schH out) ≡ 16 = rw (length-take 16 (drop 8 out), length-drop 8 out) (omega arith) in
-        length-append (schS out) (schH out) ∙ omega (arith, length-s)
+    length-header = length-append (schS out) (schH out) ∙ omega (arith, length-s, length-h)
+
+    pub block-length : length (headerBlock flag (k m) (b .countdown) (m .fields) (take inside (bits m))) ≡ 128
+    block-length = ap length (sym block-is) ∙ omega (arith, length-bitsOf (schH out), length-h)
 
     pub length-block : (i : ℕ) → i < k m → length (block-in i out) ≡ 34
     length-block i u =

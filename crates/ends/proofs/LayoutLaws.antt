@@ -26,7 +26,7 @@ use Rattle.ends.specs.EndToEnd.{silence, repeat, block, headers}
 use Rattle.ends.proofs.HeardLaws.{range, length-header, length-block}
 
 -- The rules of a build in another slot, with another countdown.
-other-slot : {y : Sync} {c : ℕ} {g : Fields} {n bytes lent : ℕ} {x z f : ℕ} → InRange y c g n bytes lent → 1 ≤ x
+pub other-slot : {y : Sync} {c : ℕ} {g : Fields} {n bytes lent : ℕ} {x z f : ℕ} → InRange y c g n bytes lent → 1 ≤ x
     → x ≤ 18 → z ≤ 3 → f ≤ 3
     → InRange (record { system = y .system; usage = y .usage; slot = z; frame = x }) f g n bytes lent
 other-slot r l h i j =
@@ -50,11 +50,23 @@ other-slot r l h i j =
       blocks = r .blocks;
     }
 
-built-taken : (m : Message) (y : Sync) (c : ℕ) (out : List ℕ)
+pub built-taken : (m : Message) (y : Sync) (c : ℕ) (out : List ℕ)
     → InRange y c (m .fields) (m .n) (length (m .lent)) (length out)
     → buildOf y c (m .fields) (m .n) (length (m .lent)) (length out) .fault ≡ 0
 unfolding buildOf
 built-taken m y c out r = ap (λ (f : ℕ). builtAs f (k m) .fault) (no-fault _ _ _ _ _ _ r)
+
+-- A build of the same message for another slot, with another countdown.
+abbrev pub built-for : (m : Message) → Build m → (x z f : ℕ) → 1 ≤ x → x ≤ 18 → z ≤ 3 → f ≤ 3 → Build m
+built-for m b x z f l h i j =
+    record {
+      sync = record { system = b .sync .system; usage = b .sync .usage; slot = z; frame = x };
+      countdown = f;
+      out = b .out;
+      taken =
+          built-taken m (record { system = b .sync .system; usage = b .sync .usage; slot = z; frame = x }) f (b .out)
+          (other-slot (range m b) l h i j);
+    }
 
 module _ (s : Settings) (m : Message) (b : Build m) where
   abbrev last-slot : Line Lent → Place
@@ -109,18 +121,7 @@ module _ (s : Settings) (m : Message) (b : Build m) where
 
   -- ---- The header in every slot that it may have.
 
-  -- The same build for another slot, and its report as a repeat.
-  abbrev again-build : (y z c : ℕ) → 1 ≤ y → y ≤ 18 → z ≤ 3 → c ≤ 3 → Build m
-  again-build y z c l h i j =
-      record {
-        sync = record { system = b .sync .system; usage = b .sync .usage; slot = z; frame = y };
-        countdown = c;
-        out = b .out;
-        taken =
-            built-taken m (record { system = b .sync .system; usage = b .sync .usage; slot = z; frame = y }) c (b .out)
-            (other-slot (range m b) l h i j);
-      }
-
+  -- Its report there, as a repeat.
   another : (ls : Line Lent) (y z : ℕ) → Sent s m b ls 0 → let q : Place = record { frame = y; slot = z + 1 } in
       q ≡ next (last-slot ls) → z ≤ 3
       → tick q (frames (reports s ls)) ≤ b .countdown
@@ -130,7 +131,7 @@ module _ (s : Settings) (m : Message) (b : Build m) where
       let n = tick (record { frame = y; slot = z + 1 }) (frames (reports s ls)) in
       let f = range m b .numbers .countdown in
       let h = next-range (last-slot ls) (r .0) (r .1) in
-      let b′ = again-build y z (b .countdown - n) (rw (ap (λ (q : Place). q .frame) e) (h .0))
+      let b′ = built-for m b y z (b .countdown - n) (rw (ap (λ (q : Place). q .frame) e) (h .0))
       (rw (ap (λ (q : Place). q .frame) e) (h .1)) i (omega arith) in
       (header-lent m b′, repeat b′ t e (omega arith), refl, refl)
 

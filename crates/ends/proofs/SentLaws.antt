@@ -10,18 +10,17 @@ use Rattle.blocks.specs.Slots.{nextFrame}
 use Rattle.blocks.proofs.SlotLaws.{due-alike}
 use Rattle.history.specs.Line.{Line, start, _▸_, _⧺_, count}
 use Rattle.history.specs.Slots.{next, due, Header, Heard, nothing, fragmented, unfragmented, frag, end, Report}
-use Rattle.history.specs.Slots.{no-header, header-in, countdown-in, is-fragmented}
+use Rattle.history.specs.Slots.{header-in, is-fragmented}
 use Rattle.history.specs.History.{History, final, InTurn, Unbroken, join, Singles, Copy, Copies}
 use Rattle.history.specs.Step.{Assembly, State, Outcome, Answer, quiet, joined, is-due, is-last, broken-off, on-nothing}
 use Rattle.history.specs.Step.{on-frag, on-end, on-fragmented, judged, answered, answer, after, outcome-at}
 use Rattle.history.specs.declared.Place.{Place}
-use Rattle.history.specs.declared.Near.{Near}
 use Rattle.history.proofs.Turns.{frame-after}
 use Rattle.history.proofs.Verdicts.{unfit, rest-at}
 use Rattle.history.proofs.OpenRun.{same-place-true, same-place-is, turn-is, unbroken-on, left, again-is, repeats-is, At}
 use Rattle.history.proofs.OpenRun.{join-more, with-bits, left-at, leaving, stays-at, takes-at, opens-at}
-use Rattle.history.proofs.NearestHeader.{near-step, left-near, copied}
-use Rattle.history.proofs.Outcomes.{untrue, answer-at, hands-at, quiet-at}
+use Rattle.history.proofs.Outcomes.{untrue, answer-at, quiet-at}
+use Rattle.history.proofs.OnceHolds.{theorem-again}
 use Rattle.ends.specs.Sent.{in-slot, Sending, at-first, silence, again, block, on-the-way}
 use Rattle.ends.specs.Sent.{Repeating, said, unsaid, said-again}
 
@@ -187,29 +186,16 @@ module _ (hs : History) (h : Header) (f : ℕ) (p : Place) (w : h .for-us ≡ tr
   pub theorem-copies : Copy hs (in-slot p (unfragmented h f)) h f → Copies hs (in-slot p (unfragmented h f))
   theorem-copies c = record { header = h; countdown = f; holds = refl; for-us = w; is-copy = c }
 
-  -- The nearest header as it is held since.
-  abbrev near-by : ℕ → Near
-  near-by n = record { raw = h .raw; again = n }
-
-  still-near : (rs : History) (r : Report) → after (heard-before rs) .near ≡ near-by (left (suc f) rs)
-      → r .place ≡ next (final p rs) → rest-at (heard-before rs) (r .place) .near ≡ near-by (left (suc f) (rs ▸ r))
-  still-near rs r e t =
-      left-near (heard-before rs) (r .place) (unbroken-on hs rs (in-slot p (unfragmented h f)) (r .place) t) e
-
-  nearby : {rs : History} → Repeating h f p rs → after (heard-before rs) .near ≡ near-by (left (suc f) rs)
-  nearby said = near-step hs (in-slot p (unfragmented h f)) h f true refl refl w
-  nearby (unsaid {rs} r s t e) =
-      near-step (heard-before rs) r no-header 0 false (ap header-in e) (ap countdown-in e) refl
-      ∙ still-near rs r (nearby s) t
-  nearby (said-again {rs} r f′ s t e c) =
-      near-step (heard-before rs) r h f′ true (ap header-in e) (ap countdown-in e) w
-      ∙ ap near-by (sym (again-is f f′ (rs ▸ r) c))
+  repeating-turns : {rs : History} → Repeating h f p rs → InTurn p rs
+  repeating-turns said = tt
+  repeating-turns (unsaid r s t e) = (repeating-turns s, t)
+  repeating-turns (said-again r f′ s t e c) = (repeating-turns s, t)
 
   -- Each repeat is a copy, and the message is not handed over again.
   pub theorem-repeats : {rs : History} {r : Report} → Repeating h f p (rs ▸ r)
       → outcome-at (heard-before rs) r ≡ on-the-way (r .heard)
   theorem-repeats (unsaid {rs} r s t e) = hushed (heard-before rs) r e ∙ ap on-the-way (sym e)
   theorem-repeats (said-again {rs} r f′ s t e c) =
-      let n = repeats-is (h .raw) (h .raw) (left (suc f) (rs ▸ r)) f′ refl (again-is f f′ (rs ▸ r) c) in
-      hands-at (heard-before rs) r h f′ true e w (ap (copied h f′) (still-near rs r (nearby s) t) ∙ n)
+      theorem-again hs rs p h f r w
+      (record { countdown = f′; holds = e; turns = (repeating-turns s, t); counted = c })
       ∙ ap on-the-way (sym e)

@@ -3,12 +3,12 @@ use mathlib.Core.Path.{_≡_, refl, sym, ap, _∙_}
 use mathlib.Core.Bool.{Bool}
 use mathlib.Core.List.{List}
 use Prim.Native.Nat.{ℕ, _^_, _<_}
-use native.Mathlib.Omega.{arith}
 use borrow.Author.Tests.{lt-ltb}
 use Rattle.bits.proofs.Numbers.{fits-in}
 use Rattle.blocks.proofs.HeaderLaws.{addressWidth-le}
 use Rattle.history.specs.Line.{Line, start, _▸_, _⧺_, each, Every}
 use Rattle.history.specs.History.{History}
+use Rattle.history.proofs.Lines.{never}
 use Rattle.reports.specs.declared.unit.Settings.{Settings}
 use Rattle.receiver.specs.Reached.{reports}
 use Rattle.transport.specs.Layouts.{ackOf, per, at}
@@ -29,9 +29,6 @@ use Rattle.hires.proofs.HandedLaws.{Whole, readIn, reading-is}
 use Rattle.hires.proofs.ProgramLaws.{calls-append, handed-on, in-full}
 
 -- ---- one call
-
-never : (l : Line Handed) (x : Handed) → l ▸ x ≡ start → ⊥
-never l x e = let z : _≡_ {A = ℕ} 0 1 = cc in omega arith
 
 record Single (cs : Line Call) (x : Handed) : Type 0 where
   call : Call

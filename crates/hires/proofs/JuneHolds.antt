@@ -8,6 +8,7 @@ use native.Mathlib.Omega.{arith}
 use lib.Dec.{eqb}
 use Rattle.blocks.specs.declared.header.Fields.{Fields}
 use Rattle.history.specs.Line.{Line, start, _▸_, _⧺_, each}
+use Rattle.history.proofs.Lines.{⧺-assoc}
 use Rattle.reports.specs.declared.unit.Settings.{Settings}
 use Rattle.transport.specs.declared.Transport.{Transport}
 use Rattle.bookings.specs.Pairs.{Pair, booked, On, times, IsBooked, IsAgain}
@@ -15,7 +16,7 @@ use Rattle.bookings.specs.Book.{Transfer}
 use Rattle.bookings.specs.Calls as bookings
 use Rattle.bookings.specs.Calls.{Call, mark, InTurn, marked, transfers}
 use Rattle.bookings.proofs.PairLaws.{times-none, times-append}
-use Rattle.bookings.proofs.BookedLaws.{booked-on, ⧺-assoc}
+use Rattle.bookings.proofs.BookedLaws.{booked-on}
 use Rattle.bookings.proofs.BookLaws.{is-transfer}
 use Rattle.bookings.proofs.IndexHolds.{over-transfers, over-calls}
 use Rattle.hires.specs.Program.{Step, calls, marks, Program}

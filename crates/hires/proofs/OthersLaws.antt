@@ -12,6 +12,7 @@ use Rattle.history.specs.Line.{Line, start, _▸_, _⧺_, each}
 use Rattle.history.specs.Slots.{Heard, header-in, frag, end, Report}
 use Rattle.history.specs.History.{History, NotForUs}
 use Rattle.history.specs.Step.{Assembly, no-run, no-assembly, is-due, is-last, quiet, outcome-at}
+use Rattle.history.proofs.Lines.{⧺-assoc}
 use Rattle.history.proofs.Verdicts.{absurd-bool, unfit, comes, opens-none, rest-at, lost-at}
 use Rattle.history.proofs.OpenRun.{At, none-left, known-at, drops-at}
 use Rattle.history.proofs.Outcomes.{quiet-at}
@@ -20,7 +21,6 @@ use Rattle.reports.specs.declared.unit.Settings.{Settings}
 use Rattle.history.specs.declared.Place.{Place}
 use Rattle.receiver.specs.Reached.{reportOf, reports}
 use Rattle.bookings.specs.Calls.{Call}
-use Rattle.bookings.proofs.BookedLaws.{⧺-assoc}
 use Rattle.ends.specs.EndToEnd as sent
 use Rattle.ends.specs.EndToEnd.{Message, Build, k, header-lent, nothing-lent, block-lent, due-slot, Sent, Handed}
 use Rattle.ends.specs.EndToEnd.{with-outcome, handed, header-report, all-reports, so-far}

@@ -1,7 +1,10 @@
+pub mod Lines
 pub mod Turns
 pub mod Verdicts
 pub mod OpenRun
-pub mod NearestHeader
+pub mod EarlierHeaders
 pub mod Outcomes
 pub mod Theorems
+pub mod OnceHolds
+pub mod SevenHolds
 pub mod Bounds

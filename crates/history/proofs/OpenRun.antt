@@ -178,7 +178,7 @@ pub rests-at : (hs : History) (r : Report) → Holds hs (after hs .assembly)
     → Rests hs r (rest-at hs (r .place) .assembly)
 rests-at hs r = rests hs r (in-turn (after hs .last) (r .place)) (turn-true hs (r .place))
 
-holds-step : {hs : History} {q : Place} {n : Near} {lost : Bool} {a : Assembly} {x : Heard} {v : Verdict}
+holds-step : {hs : History} {q : Place} {n : List Near} {lost : Bool} {a : Assembly} {x : Heard} {v : Verdict}
     → Rests hs (report q x) a → Comes (a .run) n q lost x v
     → Holds (hs ▸ report q x) (changed (rest q n a) q x v .assembly)
 holds-step none-rests (passing f d g) = none-held

@@ -16,7 +16,7 @@ use Rattle.history.specs.declared.Verdict.{Verdict}
 use Rattle.history.specs.Step.{Assembly, State, Outcome, Answer, quiet, single, joined, opened, kept, copy}
 use Rattle.history.specs.Step.{no-run, in-turn, is-held, is-due, is-last, repeats, renews, older-run, broken-off}
 use Rattle.history.specs.Step.{on-frag, on-end, on-fragmented, on-unfragmented, outcome-of, judged, answered}
-use Rattle.history.specs.Step.{answer, after, outcome-at, dropped-at}
+use Rattle.history.specs.Step.{copied, answer, after, outcome-at, dropped-at}
 use Rattle.history.specs.History.{History, Unbroken, Run, IsOpen, next-due, Closes, Keeps, Singles, Copies, Opens}
 use Rattle.history.specs.History.{NotForUs, DueKind, Repeats, Ends, broken, other-header, missed, Drops}
 use Rattle.history.proofs.Verdicts.{absurd-bool, unfit, Hands, no-hand, hand, mark-is}
@@ -26,7 +26,7 @@ use Rattle.history.proofs.OpenRun.{and-true, same-place-true, same-plac
 use Rattle.history.proofs.OpenRun.{shape, left, again-true, again-is, repeats-true, repeats-is, left-at, found}
 use Rattle.history.proofs.OpenRun.{Holds, none-held, run-held, holds, Rests, none-rests, run-rests, rests-at}
 use Rattle.history.proofs.OpenRun.{leaving}
-use Rattle.history.proofs.NearestHeader.{copied, copy-true, copy-is}
+use Rattle.history.proofs.EarlierHeaders.{copy-true, copy-is}
 
 -- What each outcome says of the history.
 abbrev Says : History → Report → Outcome → Type 0
@@ -132,7 +132,7 @@ module _ (hs : History) (r : Report) where
 
   -- The answer to an unfragmented header for this unit turns on the test for a copy.
   pub hands-at : (h : Header) (f : ℕ) (b : Bool) → r .heard ≡ unfragmented h f → h .for-us ≡ true
-      → copied h f (rest-at hs (r .place) .near) ≡ b → let a = rest-at hs (r .place) .assembly in
+      → copied (rest-at hs (r .place) .near) (h .raw) f ≡ b → let a = rest-at hs (r .place) .assembly in
       outcome-at hs r ≡ outcome-of (cond b 5 1) (h .fields) (h .bits) (a .run .fields) (a .joined ++ h .bits)
   hands-at h f b e w c =
       let s = rest-at hs (r .place) in
@@ -144,7 +144,7 @@ module _ (hs : History) (r : Report) where
   singles g m c =
       let h = c .header in
       let f = c .countdown in
-      let no = untrue (copied h f (rest-at hs (r .place) .near)) (λ e. c .no-copy (copy-true hs r h f e)) in
+      let no = untrue (copied (rest-at hs (r .place) .near) (h .raw) f) (λ e. c .no-copy (copy-true hs r h f e)) in
       hands-at h f false (c .holds) (c .for-us) no ∙ ap₂ single (sym (c .its-fields)) (sym (c .its-bits))
 
   pub copies : Copies hs r → outcome-at hs r ≡ copy
@@ -206,7 +206,7 @@ module _ (u : Run) where
   unfit-is (frag b) l z = eq-eqb (count (u .blocks)) (u .more) (omega arith)
   unfit-is (end b) l z = ap not (ne-eqb (count (u .blocks)) (u .more) z)
 
-drops-step : {hs : History} {q : Place} {n : Near} {lost : Bool} {a : Assembly} {x : Heard} {v : Verdict}
+drops-step : {hs : History} {q : Place} {n : List Near} {lost : Bool} {a : Assembly} {x : Heard} {v : Verdict}
     → Rests hs (report q x) a → (lost ≡ true → Drops hs (report q x)) → Comes (a .run) n q lost x v → v .dropped ≡ true
     → Drops hs (report q x)
 drops-step i j (passing n d g) e = j e

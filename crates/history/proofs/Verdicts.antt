@@ -2,7 +2,7 @@
 use Prim.Native.Nat.{ℕ}
 use native.Mathlib.Omega.{arith}
 use mathlib.Core.Path.{_≡_, refl, sym, _∙_, ap, ap₂}
-use mathlib.Core.Bool.{Bool, true, false, cond, not}
+use mathlib.Core.Bool.{Bool, true, false, cond, not, _&&_}
 use mathlib.Core.List.{List}
 use mathlib.Core.Option.{some}
 use lib.Dec.{eqb}
@@ -13,8 +13,8 @@ use Rattle.history.specs.declared.Near.{Near}
 use Rattle.history.specs.declared.Open.{Open}
 use Rattle.history.specs.declared.Verdict.{Verdict}
 use Rattle.history.specs.declared.Act.the-variants.{Stays, Ends, Takes}
-use Rattle.history.specs.Step.{Assembly, State, no-run, no-assembly, no-near, older, older-near, is-held, is-due}
-use Rattle.history.specs.Step.{is-last, repeats, renews, verdict, on-nothing, on-unfragmented, on-frag, on-end}
+use Rattle.history.specs.Step.{Assembly, State, no-run, no-assembly, older, is-held, is-due, copied}
+use Rattle.history.specs.Step.{is-last, renews, verdict, on-nothing, on-unfragmented, on-frag, on-end}
 use Rattle.history.specs.Step.{on-fragmented, judge, changed, in-turn, broken-off, aged, verdict-at, after}
 use Rattle.history.specs.History.{History, NotFragmented, NotForUs}
 
@@ -30,10 +30,6 @@ pub older-none : (t : Bool) (q : Place) → older t q no-assembly ≡ no-assembl
 older-none false q = refl
 older-none true q = rw (wane-none (eqb (q .slot) 1)) refl
 
-pub older-no-near : (t : Bool) (q : Place) → older-near t q no-near ≡ no-near
-older-no-near false q = refl
-older-no-near true q = rw (wane-none (eqb (q .slot) 1)) refl
-
 -- Not the block that a due slot is to hold, the last one or another.
 abbrev pub unfit : Bool → Heard → Bool
 unfit last nothing = true
@@ -42,14 +38,14 @@ unfit last (unfragmented h f) = true
 unfit last (frag b) = last
 unfit last (end b) = not last
 
--- What is answered to an unfragmented header, and whether it is the nearest one from now on.
-pub data Hands (n : Near) : Heard → ℕ → Bool → Type 0 where
-  no-hand : {x : Heard} → NotForUs x → Hands n x 0 false
-  hand : {h : Header} {f : ℕ} (c : Bool) → h .for-us ≡ true → repeats (n .raw) (n .again) (h .raw) f ≡ c
-      → Hands n (unfragmented h f) (cond c 5 1) true
+-- What is answered to an unfragmented header, and whether it is one more that copies can come of.
+pub data Hands (ns : List Near) : Heard → ℕ → Bool → Type 0 where
+  no-hand : {x : Heard} → NotForUs x → Hands ns x 0 false
+  hand : {h : Header} {f : ℕ} (c : Bool) → h .for-us ≡ true → copied ns (h .raw) f ≡ c
+      → Hands ns (unfragmented h f) (cond c 5 1) (not c)
 
 -- What a report in slot q comes to.
-pub data Comes (a : Open) (n : Near) (q : Place) (lost : Bool) : Heard → Verdict → Type 0 where
+pub data Comes (a : Open) (n : List Near) (q : Place) (lost : Bool) : Heard → Verdict → Type 0 where
   passing : {x : Heard} {o : ℕ} {near : Bool} → NotFragmented x → is-due a q ≡ false → Hands n x o near
       → Comes a n q lost x (verdict o lost Stays near)
   missing : {x : Heard} {o : ℕ} {near : Bool} → NotFragmented x → is-due a q ≡ true → unfit (is-last a) x ≡ true
@@ -61,7 +57,7 @@ pub data Comes (a : Open) (n : Near) (q : Place) (lost : Bool) : Heard → Verdi
   heading : {h : Header} {more f : ℕ} (w : Bool) → h .for-us ≡ w
       → Comes a n q lost (fragmented h more f) (on-fragmented w (is-held a) (renews a w (h .raw) f) lost)
 
-module _ (a : Open) (n : Near) (q : Place) (lost : Bool) where
+module _ (a : Open) (n : List Near) (q : Place) (lost : Bool) where
   pub comes : (x : Heard)
       → Comes a n q lost x (judge (what-in x) a n q (header-in x .for-us) (header-in x .raw) (countdown-in x) lost)
   comes nothing = go (is-due a q) refl
@@ -70,9 +66,9 @@ module _ (a : Open) (n : Near) (q : Place) (lost : Bool) where
       go true e = missing refl e refl (no-hand refl)
       go false e = passing refl e (no-hand refl)
   comes (fragmented h more f) = heading (h .for-us) refl
-  comes (unfragmented h f) = go (is-due a q) (h .for-us) (repeats (n .raw) (n .again) (h .raw) f) refl refl refl
+  comes (unfragmented h f) = go (is-due a q) (h .for-us) (copied n (h .raw) f) refl refl refl
     where
-      go : (d w c : Bool) → is-due a q ≡ d → h .for-us ≡ w → repeats (n .raw) (n .again) (h .raw) f ≡ c
+      go : (d w c : Bool) → is-due a q ≡ d → h .for-us ≡ w → copied n (h .raw) f ≡ c
           → Comes a n q lost (unfragmented h f) (on-unfragmented d w c lost)
       go true true c e w k = missing refl e refl (hand c w k)
       go false true c e w k = passing refl e (hand c w k)
@@ -91,24 +87,39 @@ module _ (a : Open) (n : Near) (q : Place) (lost : Bool) where
       go true false e l = missing refl e (ap not l) (no-hand refl)
       go false l e e′ = passing refl e (no-hand refl)
 
-hands-near : {n : Near} {x : Heard} {o : ℕ} {near : Bool} → Hands n x o near → near ≡ header-in x .for-us
-hands-near (no-hand w) = sym w
-hands-near (hand c w e) = sym w
+-- An unfragmented header for this unit that is no copy is one more that copies can come of.
+abbrev pub kept-in : List Near → Heard → Bool
+kept-in n nothing = false
+kept-in n (fragmented h more f) = false
+kept-in n (unfragmented h f) = h .for-us && not (copied n (h .raw) f)
+kept-in n (frag b) = false
+kept-in n (end b) = false
+
+not-kept : (n : List Near) (x : Heard) → NotForUs x → false ≡ kept-in n x
+not-kept n nothing w = refl
+not-kept n (fragmented h more f) w = refl
+not-kept n (unfragmented h f) w = ap (λ (m : Bool). m && not (copied n (h .raw) f)) (sym w)
+not-kept n (frag b) w = refl
+not-kept n (end b) w = refl
+
+hands-near : {n : List Near} {x : Heard} {o : ℕ} {near : Bool} → Hands n x o near → near ≡ kept-in n x
+hands-near {n} {x} (no-hand w) = not-kept n x w
+hands-near (hand c w e) = ap₂ (λ (m c : Bool). m && not c) (sym w) (sym e)
 
 -- A fragmented header's mark is the same whether it is for this unit or not.
 pub mark-is : (w held renewed lost : Bool) → on-fragmented w held renewed lost .dropped ≡ cond held (not renewed) lost
 mark-is true held renewed lost = refl
 mark-is false held renewed lost = refl
 
-module _ {a : Open} {n : Near} {q : Place} {lost : Bool} where
-  -- Whatever else it comes to, a header for this unit is the nearest one from now on.
-  pub near-is : {x : Heard} {v : Verdict} → Comes a n q lost x v → v .near ≡ header-in x .for-us
+module _ {a : Open} {n : List Near} {q : Place} {lost : Bool} where
+  -- Whatever else the report comes to, that is so.
+  pub near-is : {x : Heard} {v : Verdict} → Comes a n q lost x v → v .near ≡ kept-in n x
   near-is (passing f d g) = hands-near g
   near-is (missing f d u g) = hands-near g
   near-is (keeping b d l) = refl
   near-is (closing b d l) = refl
-  near-is (heading true w) = sym w
-  near-is (heading false w) = sym w
+  near-is (heading true w) = refl
+  near-is (heading false w) = refl
 
   -- The mark where an assembly was broken off, and where a due slot does not hold its block.
   pub lost-is : {x : Heard} {v : Verdict} → Comes a n q lost x v → is-held a ≡ false → lost ≡ true → v .dropped ≡ true
@@ -141,7 +152,7 @@ module _ {a : Open} {n : Near} {q : Place} {lost : Bool} where
   quiet-is (heading false w) e k = refl
 
 -- What is left of a state when a report comes, and whether an assembly was broken off.
-abbrev pub rest : Place → Near → Assembly → State
+abbrev pub rest : Place → List Near → Assembly → State
 rest q n a = record { last = some q; near = n; assembly = a }
 
 abbrev pub rest-at : History → Place → State
@@ -151,8 +162,9 @@ abbrev pub lost-at : History → Place → Bool
 lost-at hs q = broken-off (in-turn (after hs .last) q) (after hs .assembly .run)
 
 -- A report with no fragmented header, not in the due slot, leaves the assembly as it is.
-pub stays : {a : Assembly} {n : Near} {q : Place} {lost : Bool} {x : Heard} {v : Verdict} → Comes (a .run) n q lost x v
-    → NotFragmented x → is-due (a .run) q ≡ false → changed (rest q n a) q x v .assembly ≡ a
+pub stays : {a : Assembly} {n : List Near} {q : Place} {lost : Bool} {x : Heard} {v : Verdict}
+    → Comes (a .run) n q lost x v → NotFragmented x → is-due (a .run) q ≡ false
+    → changed (rest q n a) q x v .assembly ≡ a
 stays (passing f d g) k e = refl
 stays (missing f d w g) k e = absurd-bool (sym e ∙ d)
 stays (keeping b d l) k e = absurd-bool (sym e ∙ d)
@@ -160,8 +172,8 @@ stays (closing b d l) k e = absurd-bool (sym e ∙ d)
 stays (heading w i) k e = absurd-bool (sym k)
 
 -- What is not for this unit opens none.
-pub opens-none : {n : Near} {q : Place} {lost : Bool} {x : Heard} {v : Verdict} → Comes no-run n q lost x v → NotForUs x
-    → changed (rest q n no-assembly) q x v .assembly ≡ no-assembly
+pub opens-none : {n : List Near} {q : Place} {lost : Bool} {x : Heard} {v : Verdict} → Comes no-run n q lost x v
+    → NotForUs x → changed (rest q n no-assembly) q x v .assembly ≡ no-assembly
 opens-none (passing f d g) e = refl
 opens-none (missing f d w g) e = refl
 opens-none (keeping b d l) e = absurd-bool d

@@ -109,20 +109,21 @@ pub record Earlier : Type 0 where
   pub countdown : ℕ
   pub since : History
 
--- It is the nearest earlier one for this unit, with no break since.
-pub record IsNearest (hs : History) (e : Earlier) : Type 0 where
+-- It was for this unit, with no break since.
+pub record IsEarlier (hs : History) (e : Earlier) : Type 0 where
   pub before : History
   pub report : Report
   pub split : hs ≡ (before ▸ report) ⧺ e .since
   pub brings : Brings (report .heard) (e .header) (e .countdown)
-  pub nearest : Every (λ r. NotForUs (r .heard)) (e .since)
   pub turns : InTurn (report .place) (e .since)
 
--- A header h with countdown f at this report is a copy.
+-- An unfragmented header h with countdown f at this report is a copy of any earlier one with the same SCH/H but for the
+-- countdown: that is unfragmented too.
 pub record Copy (hs : History) (r : Report) (h : Header) (f : ℕ) : Type 0 where
   pub earlier : Earlier
-  pub is-nearest : IsNearest hs earlier
+  pub is-earlier : IsEarlier hs earlier
   pub unbroken : Unbroken hs (r .place)
+  pub alike : NotFragmented (is-earlier .report .heard)
   pub same : earlier .header .raw ≡ h .raw
   pub counted : earlier .countdown ≡ f + frames (earlier .since ▸ r)
 

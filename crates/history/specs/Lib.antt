@@ -3,3 +3,5 @@ pub mod Line
 pub mod Slots
 pub mod History
 pub mod Step
+pub mod Once
+pub mod Seven

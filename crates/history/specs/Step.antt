@@ -1,8 +1,8 @@
 -- The receiver, as a step that runs: each report is judged, by what it brings and by what is open, and the verdict says
 -- what is answered and what is changed. Assumes nothing.
 use Prim.Native.Nat.{ℕ, suc, _-_}
-use mathlib.Core.Bool.{Bool, true, false, cond, not, _&&_}
-use mathlib.Core.List.{List, [], _++_}
+use mathlib.Core.Bool.{Bool, true, false, cond, not, _&&_, _||_}
+use mathlib.Core.List.{List, [], _∷_, _++_}
 use mathlib.Core.Option.{Option, none, some}
 use lib.Dec.{eqb}
 use Rattle.history.specs.Line.{Line, start, _▸_}
@@ -27,14 +27,15 @@ pub record Assembly : Type 0 where
   pub run : Open
   pub joined : List Bool
 
+-- The place of the last report, the earlier headers, the oldest first, and the assembly.
 pub record State : Type 0 where
   pub last : Option Place
-  pub near : Near
+  pub near : List Near
   pub assembly : Assembly
 
 -- What is not there is zero.
 abbrev pub no-near : Near
-no-near = record { raw = no-raw; again = 0 }
+no-near = record { raw = no-raw; countdown = 0 }
 
 abbrev pub no-run : Open
 no-run = record { fields = no-fields; raw = no-raw; held = 0; again = 0; more = 0; frame = 0; countdown = 0; kept = 0 }
@@ -43,7 +44,7 @@ abbrev pub no-assembly : Assembly
 no-assembly = record { run = no-run; joined = [] }
 
 abbrev pub fresh : State
-fresh = record { last = none; near = no-near; assembly = no-assembly }
+fresh = record { last = none; near = []; assembly = no-assembly }
 
 -- ---- What is answered.
 
@@ -90,6 +91,10 @@ abbrev pub in-turn : Option Place → Place → Bool
 in-turn none q = true
 in-turn (some p) q = same-place q (next p)
 
+-- The frame is over: after slot 1 comes slot 3 of the same one, and else slot 1 of the next.
+abbrev pub is-over : Place → Bool
+is-over q = not (eqb (q .slot) 1)
+
 abbrev pub is-held : Open → Bool
 is-held a = eqb (a .held) 1
 
@@ -103,6 +108,14 @@ is-last a = eqb (a .kept) (a .more)
 abbrev pub repeats : Raw → ℕ → Raw → ℕ → Bool
 repeats raw again other f = same-raw raw other && eqb again (suc f)
 
+-- It is a copy of this one, or of one of these.
+abbrev pub fits : Near → Raw → ℕ → Bool
+fits n raw f = eqb (n .countdown) f && same-raw (n .raw) raw
+
+abbrev pub copied : List Near → Raw → ℕ → Bool
+copied [] raw f = false
+copied (n ∷ ns) raw f = fits n raw f || copied ns raw f
+
 -- It repeats the open run's own, before the first block; `meant` where it is for this unit.
 abbrev pub renews : Open → Bool → Raw → ℕ → Bool
 renews a meant raw f = meant && (eqb (a .kept) 0 && repeats (a .raw) (a .again) raw f)
@@ -113,9 +126,9 @@ renews a meant raw f = meant && (eqb (a .kept) 0 && repeats (a .raw) (a .again) 
 abbrev pub wane : Place → ℕ → ℕ
 wane q n = cond (eqb (q .slot) 1) (n - 1) n
 
-abbrev pub older-near : Bool → Place → Near → Near
-older-near false q n = no-near
-older-near true q n = record { raw = n .raw; again = wane q (n .again) }
+abbrev pub older-near : Bool → List Near → List Near
+older-near true ns = ns
+older-near false ns = []
 
 abbrev pub older-run : Bool → Place → Open → Open
 older-run false q a = no-run
@@ -165,26 +178,36 @@ on-end due last lost = cond due (cond last (verdict 2 lost Ends false) missed) (
 -- it, but where the header is the open run's own.
 abbrev pub on-fragmented : Bool → Bool → Bool → Bool → Verdict
 on-fragmented meant held renewed lost =
-    let mark = cond held (not renewed) lost in cond meant (verdict 3 mark Opens true) (verdict 0 mark Ends false)
+    let mark = cond held (not renewed) lost in cond meant (verdict 3 mark Opens false) (verdict 0 mark Ends false)
 
--- To an open assembly an unfragmented header is as if nothing was heard.
+-- To an open assembly an unfragmented header is as if nothing was heard. One that is a copy fits whatever the earlier
+-- one fits, which is there already.
 abbrev pub on-unfragmented : Bool → Bool → Bool → Bool → Verdict
 on-unfragmented due meant copied lost =
-    let p = on-nothing due lost in cond meant (verdict (cond copied 5 1) (p .dropped) (p .act) true) p
+    let p = on-nothing due lost in cond meant (verdict (cond copied 5 1) (p .dropped) (p .act) (not copied)) p
 
--- By what the report brings, over what is left of the open run and of the nearest header: the slot, whether the header
+-- By what the report brings, over what is left of the open run and of the earlier headers: the slot, whether the header
 -- is for this unit, its SCH/H but for the countdown, its countdown.
-abbrev pub judge : What → Open → Near → Place → Bool → Raw → ℕ → Bool → Verdict
-judge Nothing a n q meant raw f lost = on-nothing (is-due a q) lost
-judge Fragmented a n q meant raw f lost = on-fragmented meant (is-held a) (renews a meant raw f) lost
-judge Unfragmented a n q meant raw f lost = on-unfragmented (is-due a q) meant (repeats (n .raw) (n .again) raw f) lost
-judge Frag a n q meant raw f lost = on-frag (is-due a q) (is-last a) lost
-judge End a n q meant raw f lost = on-end (is-due a q) (is-last a) lost
+abbrev pub judge : What → Open → List Near → Place → Bool → Raw → ℕ → Bool → Verdict
+judge Nothing a ns q meant raw f lost = on-nothing (is-due a q) lost
+judge Fragmented a ns q meant raw f lost = on-fragmented meant (is-held a) (renews a meant raw f) lost
+judge Unfragmented a ns q meant raw f lost = on-unfragmented (is-due a q) meant (copied ns raw f) lost
+judge Frag a ns q meant raw f lost = on-frag (is-due a q) (is-last a) lost
+judge End a ns q meant raw f lost = on-end (is-due a q) (is-last a) lost
 
 -- ---- What a verdict changes, and what it answers.
 
 abbrev pub near-of : Raw → ℕ → Near
-near-of raw f = record { raw = raw; again = suc f }
+near-of raw f = record { raw = raw; countdown = f }
+
+-- A frame on, each countdown has fallen by one; where it was 0 there is no copy any more.
+abbrev pub fallen : List Near → List Near
+fallen [] = []
+fallen (n ∷ ns) = cond (eqb (n .countdown) 0) (fallen ns) (near-of (n .raw) (n .countdown - 1) ∷ fallen ns)
+
+-- The earlier headers from now on, this one more among them or not; `over` where the next slot is in a new frame.
+abbrev pub near-after : Bool → Bool → Near → List Near → List Near
+near-after over more n ns = let all = cond more (ns ++ (n ∷ [])) ns in cond over (fallen all) all
 
 -- The run that a header opens.
 abbrev pub opening : Fields → Raw → ℕ → ℕ → ℕ → Open
@@ -204,6 +227,19 @@ taking a =
       countdown = a .countdown;
       kept = suc (a .kept);
     }
+
+-- An act as two questions: whether what was open is gone, and whether the bits that are brought are joined.
+abbrev pub clears : Act → Bool
+clears Stays = false
+clears Ends = true
+clears Opens = true
+clears Takes = false
+
+abbrev pub joins : Act → Bool
+joins Stays = false
+joins Ends = false
+joins Opens = true
+joins Takes = true
 
 -- By the act: the run, where this one would be opened; and the joined bits, where these are brought.
 abbrev pub run-after : Act → Open → Open → Open
@@ -230,7 +266,7 @@ outcome-of n g b fields message =
 abbrev pub aged : State → Place → State
 aged s q =
     let t = in-turn (s .last) q in
-    record { last = some q; near = older-near t q (s .near); assembly = older t q (s .assembly) }
+    record { last = some q; near = older-near t (s .near); assembly = older t q (s .assembly) }
 
 -- What is made of a report that brings x in slot q, in such a state; `lost` as above.
 abbrev pub judged : State → Place → Heard → Bool → Verdict
@@ -241,7 +277,7 @@ abbrev pub changed : State → Place → Heard → Verdict → State
 changed s q x v =
     record {
       last = s .last;
-      near = cond (v .near) (near-of (header-in x .raw) (countdown-in x)) (s .near);
+      near = near-after (is-over q) (v .near) (near-of (header-in x .raw) (countdown-in x)) (s .near);
       assembly = record {
         run =
             run-after (v .act)

@@ -19,12 +19,19 @@ pub enum What {
     End,
 }
 
-// The nearest earlier header for this unit with no break since: its SCH/H but for the countdown, and one more than the
-// countdown that a copy of it has now, 0 when there can be none any more.
-#[repr(C)]
+// An earlier header for this unit that one in the slot next in turn can be a copy of: its SCH/H but for the countdown,
+// and the countdown that the copy has there.
 pub struct Near {
     pub raw: Raw,
-    pub again: u8,
+    pub countdown: u64,
+}
+
+// Those that there are, the oldest first, and how many: each takes three numbers, the two of its SCH/H and its
+// countdown. What is not there is zero.
+#[repr(C)]
+pub struct Nears {
+    pub count: usize,
+    pub places: [u64; 21],
 }
 
 // What is kept of an open run but for its bits, where `held` is 1: what its header reads as and its SCH/H but for the
@@ -51,7 +58,7 @@ pub enum Act {
 }
 
 // What a report comes to: its outcome; whether an open assembly ends here without being handed over; what becomes of
-// the assembly; whether the header is the nearest one from now on.
+// the assembly; whether the header is one more that copies can come of.
 pub struct Verdict {
     pub outcome: u8,
     pub dropped: bool,

@@ -12,16 +12,18 @@ use borrow.Author.Tests.{eqb-true, ne-eqb}
 use Rattle.store.proofs.Stores.{store-nothing}
 use Rattle.history.specs.Line.{Line, start, _▸_, Every}
 use Rattle.history.specs.Step as step
-use Rattle.history.specs.Step.{no-assembly, in-turn, after}
+use Rattle.history.specs.Step.{no-assembly, in-turn, is-over, after}
 use Rattle.history.specs.declared.Place.{Place}
-use Rattle.history.proofs.Bounds.{Sized, Framed, Small, theorem-small}
+use Rattle.history.proofs.Verdicts.{rest-at}
+use Rattle.history.proofs.Bounds.{Sized, Framed, Small, theorem-small, theorem-seven, theorem-free}
 use Rattle.reports.specs.Lent.{Lent, Event, brought}
+use Rattle.reports.specs.Nears.{fallenWhen}
 use Rattle.reports.specs.Turns.{follows}
 use Rattle.reports.specs.declared.unit.Settings.{Settings}
 use Rattle.reports.proofs.RuleLaws.{ReportHolds, report-holds, report-passes}
 use Rattle.reports.proofs.ReadLaws.{sized}
 use Rattle.receiver.specs.View.{placeOf, noAssembly, assemblyOf}
-use Rattle.receiver.specs.Reached.{reports, refusedWith, Accepted, Reached, Canonical, closed, assembling}
+use Rattle.receiver.specs.Reached.{reports, refusedWith, Accepted, Reached, Canonical, closed, assembling, Listed}
 use Rattle.receiver.specs.declared.Receiver.{Receiver}
 
 -- a report that is not refused
@@ -76,6 +78,14 @@ all-sized s (ls ▸ l) a = (all-sized s ls (a .0), (framed l (a .1), sized s l))
 pub small : (s : Settings) (ls : Line Event) → Every Accepted ls → Small (after (reports s ls) .assembly)
 small s ls a = theorem-small (reports s ls) (all-sized s ls a)
 
+-- the earlier headers have their seven places, and one is free where a header is to be kept
+pub few-near : (s : Settings) (ls : Line Event) → Every Accepted ls → length (after (reports s ls) .near) ≤ 7
+few-near s ls a = theorem-seven (reports s ls) (all-sized s ls a)
+
+pub free-near : (s : Settings) (ls : Line Event) (q : Place) → Every Accepted ls
+    → length (fallenWhen (is-over q) (rest-at (reports s ls) q .near)) ≤ 6
+free-near s ls q a = theorem-free (reports s ls) q (all-sized s ls a)
+
 -- an assembly that holds nothing
 pub no-assembly-is : assemblyOf no-assembly ≡ noAssembly
 no-assembly-is = rw store-nothing refl
@@ -91,3 +101,12 @@ canonical {r} k =
           refl
       | inr e ↦ closed (ap assemblyOf e ∙ no-assembly-is)
     ])
+
+pub listed : {r : Receiver} → Reached r → Listed (r .near)
+listed k =
+    let l = k .leads in
+    record {
+      near = after (reports (k .settings) (k .heard)) .near;
+      few = few-near (k .settings) (k .heard) (l .accepted);
+      places = ap (λ (r : Receiver). r .near) (l .there);
+    }

@@ -6,29 +6,34 @@ use mathlib.Core.List.{List, [], _++_}
 use Prim.Native.Nat.{ℕ, suc, _+_, _≤_, _<_}
 use native.Mathlib.Omega.{arith}
 use lib.Dec.{eqb}
-use lib.ListN.{length}
+use lib.ListN.{length, replicate}
 use borrow.Author.Tests.{eqb-true, eqb-false}
 use Rattle.store.specs.Store.{storeOf, handed}
 use Rattle.history.specs.Line.{Line, start, _▸_}
 use Rattle.history.specs.Slots.{due, Heard, Report, header-in, more-in, countdown-in, bits-in}
 use Rattle.history.specs.History.{History}
 use Rattle.history.specs.Step as step
-use Rattle.history.specs.Step.{State, message-of, in-turn, older-near, older-run, broken-off, judge}
-use Rattle.history.specs.Step.{near-of, opening, run-after, joined-after, outcome-of, aged, verdict-at, answer, after}
+use Rattle.history.specs.Step.{State, message-of, in-turn, is-over, older-near, older-run, broken-off, judge}
+use Rattle.history.specs.Step.{near-of, near-after, opening, run-after, joined-after, outcome-of, aged, verdict-at}
+use Rattle.history.specs.Step.{answer, after}
 use Rattle.history.specs.Step.{quiet, is-held, is-due, on-nothing, passed, outcome-at, dropped-at}
 use Rattle.history.specs.declared.Place.{Place}
 use Rattle.history.specs.declared.Near.{Near}
+use Rattle.history.specs.declared.Nears.{Nears}
 use Rattle.history.specs.declared.Open.{Open}
 use Rattle.history.specs.declared.Verdict.{Verdict}
 use Rattle.history.specs.declared.What.the-variants.{Nothing}
-use Rattle.history.proofs.Verdicts.{Hands, no-hand, hand, Comes, passing, missing, keeping, closing, heading, comes}
+use Rattle.history.proofs.Verdicts.{absurd-bool, Hands, no-hand, hand, Comes, passing, missing, keeping, closing}
+use Rattle.history.proofs.Verdicts.{heading, comes, rest-at}
 use Rattle.history.proofs.Bounds.{Small}
 use Rattle.history.proofs.Theorems.{theorem-told, theorem-dropped}
 use Rattle.reports.specs.Lent.{Lent, Event, heard, faultIn}
 use Rattle.reports.specs.Turns.{follows}
 use Rattle.reports.specs.Units.{unit, settingsFit}
 use Rattle.reports.specs.Reading.{broughtOf, headless, Reads}
+use Rattle.reports.specs.Nears.{flat, placesOf, nearsOf, Judged, fallenWhen, Fallen, Kept}
 use Rattle.reports.proofs.Counting.{and-false}
+use Rattle.reports.proofs.NearLaws.{places-take, fewer-left, judged-list, nears-after}
 use Rattle.reports.specs.declared.unit.Settings.{Settings}
 use Rattle.reports.specs.declared.read.Brought.{Brought}
 use Rattle.receiver.specs.View.{receiverOf, newReceiver, answerOf, plainAnswer, broughtBits, Counted}
@@ -37,7 +42,8 @@ use Rattle.receiver.specs.Reached.{reportOf, reports, refusedWith, Accep
 use Rattle.receiver.specs.declared.answer.Answer.{Answer}
 use Rattle.receiver.specs.declared.Receiver.{Receiver}
 use Rattle.receiver.specs.declared.Reply.{Reply}
-use Rattle.receiver.proofs.AcceptedLaws.{passes, last-named, follows-is, small, no-assembly-is}
+use Rattle.receiver.proofs.AcceptedLaws.{passes, last-named, follows-is, small, few-near, free-near}
+use Rattle.receiver.proofs.AcceptedLaws.{no-assembly-is}
 use Rattle.receiver.proofs.TellLaws.{handed-none}
 
 abbrev place : Lent → Place
@@ -52,6 +58,15 @@ bits-left false j = refl
 store-left : (t : Bool) (j : List Bool) → cond t (storeOf j) (storeOf []) ≡ storeOf (cond t j [])
 store-left true j = refl
 store-left false j = refl
+
+places-left : (t : Bool) (ns : List Near)
+    → cond t (flat (placesOf ns)) (replicate 21 0) ≡ flat (placesOf (older-near t ns))
+places-left true ns = refl
+places-left false ns = refl
+
+count-left : (t : Bool) (ns : List Near) → cond t (length ns) 0 ≡ length (older-near t ns)
+count-left true ns = refl
+count-left false ns = refl
 
 module _ (s : Settings) (ls : Line Event) {before : Receiver} (k : Leads s ls before) (l : Lent) where
   abbrev state : State
@@ -73,8 +88,11 @@ module _ (s : Settings) (ls : Line Event) {before : Receiver} (k : Leads s ls be
     run-is : older-run turn q (before .assembly .run) ≡ left .assembly .run
     run-is = rw (turn-is, k .there) refl
 
-    near-is : older-near turn q (before .nearest) ≡ left .near
-    near-is = rw (turn-is, k .there) refl
+    places-is : cond turn (before .near .places) (replicate 21 0) ≡ flat (placesOf (left .near))
+    places-is = rw (turn-is, k .there) (places-left (in-turn (state .last) q) (state .near))
+
+    count-is : cond turn (before .near .count) 0 ≡ length (left .near)
+    count-is = rw (turn-is, k .there) (count-left (in-turn (state .last) q) (state .near))
 
     bits-is : cond turn (before .assembly .bits) 0 ≡ length (left .assembly .joined)
     bits-is = rw (turn-is, k .there) (bits-left (in-turn (state .last) q) (state .assembly .joined))
@@ -106,6 +124,10 @@ older-small : (turn : Bool) (tick : Place) (a : Open) → (a .frame ≤ 18) × (
 older-small true tick a h = h
 older-small false tick a h = (omega arith, omega arith, omega arith)
 
+older-few : (turn : Bool) (ns : List Near) → length ns ≤ 7 → length (older-near turn ns) ≤ 7
+older-few true ns h = h
+older-few false ns h = omega arith
+
 fewer : (turn : Bool) (n : ℕ) → n + 264 ≤ 4096 → cond turn n 0 + 264 ≤ 4096
 fewer true n h = h
 fewer false n h = omega arith
@@ -125,12 +147,30 @@ module _ {before : Receiver} (k : Reached before) (turn : Bool) where
       let z = kept-small in
       rw (e, k .leads .there) (fewer turn _ (omega (arith, z .bits, z .blocks, z .slots)))
 
-few-hands : {n : Near} {x : Heard} {o : ℕ} {near : Bool} → Hands n x o near → o ≤ 5
+  -- the earlier headers that are left
+  abbrev pub kept-near : List Near
+  kept-near = older-near turn (after (reports (k .settings) (k .heard)) .near)
+
+  near-few : length kept-near ≤ 7
+  near-few = older-few turn _ (few-near (k .settings) (k .heard) (k .leads .accepted))
+
+  pub places-known : {places : List ℕ} → places ≡ cond turn (before .near .places) (replicate 21 0)
+      → places ≡ flat (placesOf kept-near)
+  places-known e = e ∙ rw (k .leads .there) (places-left turn (after (reports (k .settings) (k .heard)) .near))
+
+  pub count-known : {n : ℕ} → n ≡ cond turn (before .near .count) 0 → n ≡ length kept-near
+  count-known e = e ∙ rw (k .leads .there) (count-left turn (after (reports (k .settings) (k .heard)) .near))
+
+  pub count-few : {n : ℕ} → n ≡ cond turn (before .near .count) 0 → n ≤ 7
+  count-few e = omega (arith, count-known e, near-few)
+
+few-hands : {n : List Near} {x : Heard} {o : ℕ} {near : Bool} → Hands n x o near → o ≤ 5
 few-hands (no-hand w) = omega arith
 few-hands (hand true w e) = omega arith
 few-hands (hand false w e) = omega arith
 
-few : {a : Open} {n : Near} {q : Place} {lost : Bool} {x : Heard} {v : Verdict} → Comes a n q lost x v → v .outcome ≤ 5
+few : {a : Open} {n : List Near} {q : Place} {lost : Bool} {x : Heard} {v : Verdict} → Comes a n q lost x v
+    → v .outcome ≤ 5
 few (passing f d h) = few-hands h
 few (missing f d u h) = few-hands h
 few (keeping b d l) = omega arith
@@ -142,8 +182,8 @@ quiet-nothing : (due lost : Bool) → on-nothing due lost .outcome ≡ 0
 quiet-nothing true lost = refl
 quiet-nothing false lost = refl
 
-module _ {f : ℕ} {s : Settings} {l : Lent} {x : Brought} (b : Brings f s l x) (a : Open) (n : Near) (q : Place) (lost : Bool)
-    {v : Verdict} (e : v ≡ judge (x .what) a n q (x .meant) (x .raw) (x .countdown) lost) where
+module _ {f : ℕ} {s : Settings} {l : Lent} {x : Brought} (b : Brings f s l x) (a : Open) (n : List Near) (q : Place)
+    (lost : Bool) {v : Verdict} (e : v ≡ judge (x .what) a n q (x .meant) (x .raw) (x .countdown) lost) where
   few-read : f ≡ 0 → v .outcome ≤ 5
   few-read z = rw (e, b .accepted z .shows) (few (comes a n q lost (heard s l)))
 
@@ -165,6 +205,52 @@ module _ {f : ℕ} {s : Settings} {l : Lent} {x : Brought} (b : Brings f s l x) 
   pub tells-inside : {m : ℕ} → (f ≡ 0 → 512 ≤ m) → 0 < v .outcome → 512 ≤ m
   tells-inside h = room-when h (eqb f 0) refl
 
+-- ---- a place for the header that is kept
+
+none-near : (due lost : Bool) → on-nothing due lost .near ≡ false
+none-near true lost = refl
+none-near false lost = refl
+
+module _ {before : Receiver} (k : Reached before) (turn : Bool) {known : ℕ} {places : List ℕ}
+    (c : known ≡ cond turn (before .near .count) 0) (e : places ≡ cond turn (before .near .places) (replicate 21 0))
+  where
+    abbrev ns : List Near
+    ns = kept-near k turn
+
+    pub judged-kept : (x : Brought) (a : Open) (q : Place) (lost : Bool) {v : Verdict}
+        → Judged x a places known q lost v → v ≡ judge (x .what) a ns q (x .meant) (x .raw) (x .countdown) lost
+    judged-kept = judged-list ns (count-known k turn c) (places-known k turn e)
+
+    module _ (over : Bool) {left : ℕ} {new : List ℕ} (f : Fallen over places known left new) where
+      left-is : left ≡ length (fallenWhen over ns)
+      left-is =
+          f (placesOf ns) (places-known k turn e) .0
+          ∙ rw (count-known k turn c) (ap (λ (m : List Near). length (fallenWhen over m)) (places-take ns))
+
+      pub left-few : left ≤ 7
+      left-few = omega (arith, left-is, fewer-left over ns, count-few k turn c, count-known k turn c)
+
+      pub left-free : (fault : ℕ) (l : Lent) → turn ≡ cond (eqb fault 0) (follows (before .place) (place l)) true
+          → over ≡ cond (eqb fault 0) (is-over (place l)) false → {x : Brought} → Brings fault (before .settings) l x
+          → (a : Open) (q : Place) (lost : Bool) {v : Verdict} → Judged x a places known q lost v → v .near ≡ true
+          → left ≤ 6
+      left-free fault l t o {x} b a q lost {v} j n = go (eqb fault 0) refl t o
+        where
+          go : (d : Bool) → eqb fault 0 ≡ d → turn ≡ cond d (follows (before .place) (place l)) true
+              → over ≡ cond d (is-over (place l)) false → left ≤ 6
+          go true d t o =
+              let y = turn-is (k .settings) (k .heard) (k .leads) l t in
+              let z = free-near (k .settings) (k .heard) (place l) (k .leads .accepted) in
+              let hs = reports (k .settings) (k .heard) in
+              let w : left ≡ length (fallenWhen (is-over (place l)) (rest-at hs (place l) .near)) =
+              left-is ∙ rw (o, y) refl in
+              omega (arith, w, z)
+          go false d t o =
+              let w : v .near ≡ false =
+              ap (λ (v : Verdict). v .near) (judged-kept x a q lost j)
+              ∙ rw (b .refused (eqb-false fault 0 d)) (none-near (is-due a q) lost) in
+              absurd-bool (sym w ∙ n)
+
 -- ---- the reply
 
 -- What the code finds on the way to its reply to a report that is refused for a fault, or accepted where that is 0; and
@@ -174,24 +260,31 @@ pub record Works (before : Receiver) (fault : ℕ) (l : Lent) (r : Reply) (old n
   pub tick : Place
   pub lost : Bool
   pub run : Open
-  pub near : Near
+  pub known : ℕ
+  pub places : List ℕ
   pub bits : ℕ
   pub store : List ℕ
   pub x : Brought
   pub v : Verdict
+  pub over : Bool
+  pub left : ℕ
+  pub fallen : List ℕ
   pub turn-is : turn ≡ cond (eqb fault 0) (follows (before .place) (place l)) true
   pub tick-is : tick ≡ cond (eqb fault 0) (place l) noPlace
   pub lost-is : lost ≡ broken-off turn (before .assembly .run)
   pub run-is : run ≡ older-run turn tick (before .assembly .run)
-  pub near-is : near ≡ older-near turn tick (before .nearest)
+  pub known-is : known ≡ cond turn (before .near .count) 0
+  pub places-is : places ≡ cond turn (before .near .places) (replicate 21 0)
   pub bits-is : bits ≡ cond turn (before .assembly .bits) 0
   pub store-is : store ≡ cond turn (before .assembly .store) (storeOf [])
   pub brings : Brings fault (before .settings) l x
-  pub judges : v ≡ judge (x .what) run near tick (x .meant) (x .raw) (x .countdown) lost
+  pub judges : Judged x run places known tick lost v
   pub tells : Told v x (broughtBits x (l .blocks)) (run .fields) bits store (r .answer) old new
   pub settings-after : r .receiver .settings ≡ before .settings
   pub place-after : r .receiver .place ≡ cond (eqb fault 0) (place l) (before .place)
-  pub near-after : r .receiver .nearest ≡ cond (v .near) (near-of (x .raw) (x .countdown)) near
+  pub over-is : over ≡ cond (eqb fault 0) (is-over (place l)) false
+  pub falls : Fallen over places known left fallen
+  pub keeps : Kept (v .near) over x fallen left (r .receiver .near .count) (r .receiver .near .places)
   pub run-after :
       r .receiver .assembly .run ≡ run-after (v .act) (opening (x .fields) (x .raw) (x .more) (l .frame) (x .countdown)) run
   pub bits-after : Counted (v .act) bits (x .bits) (r .receiver .assembly .bits)
@@ -252,8 +345,11 @@ module _ (s : Settings) (ls : Line Event) {before : Receiver} (k : Leads s ls be
   run-left : w .run ≡ rest .assembly .run
   run-left = w .run-is ∙ rw (w .tick-is) (run-is s ls k l (w .turn-is))
 
-  near-left : w .near ≡ rest .near
-  near-left = w .near-is ∙ rw (w .tick-is) (near-is s ls k l (w .turn-is))
+  known-left : w .known ≡ length (rest .near)
+  known-left = w .known-is ∙ count-is s ls k l (w .turn-is)
+
+  places-are-left : w .places ≡ flat (placesOf (rest .near))
+  places-are-left = w .places-is ∙ places-is s ls k l (w .turn-is)
 
   bits-left-is : w .bits ≡ length (rest .assembly .joined)
   bits-left-is = w .bits-is ∙ bits-is s ls k l (w .turn-is)
@@ -267,8 +363,8 @@ module _ (s : Settings) (ls : Line Event) {before : Receiver} (k : Leads s ls be
   -- the verdict is the step's
   verdict-is : w .v ≡ verdict-at (after history) next
   verdict-is =
-      w .judges
-      ∙ rw (shown, run-left, near-left, w .tick-is, w .lost-is ∙ lost-is s ls k l (w .turn-is)) refl
+      judged-list (rest .near) known-left places-are-left (w .x) (w .run) (w .tick) (w .lost) (w .judges)
+      ∙ rw (shown, run-left, w .tick-is, w .lost-is ∙ lost-is s ls k l (w .turn-is)) refl
 
   brought-is : broughtBits (w .x) (l .blocks) ≡ bits-in h
   brought-is = reads .message
@@ -282,8 +378,13 @@ module _ (s : Settings) (ls : Line Event) {before : Receiver} (k : Leads s ls be
   receiver-is =
       let j = rest .assembly .joined in
       let e₁ : r .receiver .settings ≡ s = w .settings-after ∙ ap (λ (z : Receiver). z .settings) (k .there) in
-      let e₂ : r .receiver .nearest ≡ cond (verdict .near) (near-of (header-in h .raw) (countdown-in h)) (rest .near) =
-      w .near-after ∙ rw (verdict-is, shown, near-left) refl in
+      let e₂ : r .receiver .near
+      ≡ nearsOf
+      (near-after (is-over (place l)) (verdict .near) (near-of (header-in h .raw) (countdown-in h)) (rest .near)) =
+      nears-after (w .over) (w .v .near) (w .x) (rest .near) known-left places-are-left
+      (older-few (in-turn (after history .last) (place l)) (after history .near) (few-near s ls (k .accepted)))
+      (λ _. rw (w .over-is) (free-near s ls (place l) (k .accepted))) (w .falls) (w .keeps)
+      ∙ rw (w .over-is, verdict-is, shown) refl in
       let o = opening (header-in h .fields) (header-in h .raw) (more-in h) (l .frame) (countdown-in h) in
       let e₃ : r .receiver .assembly .run ≡ run-after (verdict .act) o (rest .assembly .run) =
       w .run-after ∙ rw (verdict-is, shown, run-left) refl in
@@ -296,7 +397,7 @@ module _ (s : Settings) (ls : Line Event) {before : Receiver} (k : Leads s ls be
       λ i. record {
         settings = e₁ i;
         place = w .place-after i;
-        nearest = e₂ i;
+        near = e₂ i;
         assembly = record { run = e₃ i; bits = e₄ i; store = e₅ i };
       }
 
@@ -371,11 +472,28 @@ module _ {before : Receiver} (k : Reached before) (l : Lent) {f : ℕ} (d : eqb 
   nothing-brought : w .x ≡ headless Nothing f 0 0
   nothing-brought = w .brings .refused (eqb-false f 0 d)
 
+  abbrev were : List Near
+  were = after (reports (k .settings) (k .heard)) .near
+
+  near-was : before .near ≡ nearsOf were
+  near-was = ap (λ (z : Receiver). z .near) (k .leads .there)
+
+  known-on : w .known ≡ length were
+  known-on = w .known-is ∙ rw turn-on (ap (λ (n : Nears). n .count) near-was)
+
+  places-on : w .places ≡ flat (placesOf were)
+  places-on = w .places-is ∙ rw turn-on (ap (λ (n : Nears). n .places) near-was)
+
+  not-over : w .over ≡ false
+  not-over = w .over-is ∙ rw d refl
+
   never-due : (a : Open) → is-due a noPlace ≡ false
   never-due a = rw (and-false (eqb 0 (due (a .frame) (a .countdown) (a .kept) .frame)), and-false (is-held a)) refl
 
   idle : w .v ≡ passed false
-  idle = w .judges ∙ rw (nothing-brought, no-tick, never-due (w .run), w .lost-is, turn-on) refl
+  idle =
+      judged-list were known-on places-on (w .x) (w .run) (w .tick) (w .lost) (w .judges)
+      ∙ rw (nothing-brought, no-tick, never-due (w .run), w .lost-is, turn-on) refl
 
   bits-were : before .assembly .bits ≡ length joined
   bits-were = ap (λ (z : Receiver). z .assembly .bits) (k .leads .there)
@@ -392,7 +510,12 @@ module _ {before : Receiver} (k : Reached before) (l : Lent) {f : ℕ} (d : eqb 
   kept-all : r .receiver ≡ before
   kept-all =
       let e₁ : r .receiver .place ≡ before .place = w .place-after ∙ rw d refl in
-      let e₂ : r .receiver .nearest ≡ before .nearest = w .near-after ∙ rw (idle, w .near-is, turn-on, no-tick) refl in
+      let n : w .v .near ≡ true → length (fallenWhen (w .over) were) ≤ 6 =
+      λ z. absurd-bool (sym (ap (λ (v : Verdict). v .near) idle) ∙ z) in
+      let e₂ : r .receiver .near ≡ before .near =
+      nears-after (w .over) (w .v .near) (w .x) were known-on places-on
+      (few-near (k .settings) (k .heard) (k .leads .accepted)) n (w .falls) (w .keeps)
+      ∙ rw (not-over, idle) (sym near-was) in
       let e₃ : r .receiver .assembly .run ≡ before .assembly .run = w .run-after ∙ rw idle run-on in
       let c : r .receiver .assembly .bits ≡ length (joined-after (w .v .act) [] joined) =
       w .bits-after joined [] bits-on (ap (λ (y : Brought). y .bits) nothing-brought) in
@@ -402,7 +525,7 @@ module _ {before : Receiver} (k : Reached before) (l : Lent) {f : ℕ} (d : eqb 
       λ i. record {
         settings = w .settings-after i;
         place = e₁ i;
-        nearest = e₂ i;
+        near = e₂ i;
         assembly = record { run = e₃ i; bits = e₄ i; store = e₅ i };
       }
 

@@ -14,6 +14,7 @@ use Rattle.history.specs.Step.{State, message-of, answer, after}
 use Rattle.history.specs.declared.Place.{Place}
 use Rattle.reports.specs.Lent.{Lent, Event, heard, faultIn}
 use Rattle.reports.specs.declared.unit.Settings.{Settings}
+use Rattle.reports.proofs.NearLaws.{nears-once}
 use Rattle.receiver.specs.View.{placeOf, receiverOf, answerOf, plainAnswer}
 use Rattle.receiver.specs.Reached.{reportOf, reports, refusedWith, Leads, Reached, Hears}
 use Rattle.receiver.specs.declared.Receiver.{Receiver}
@@ -47,7 +48,8 @@ module _ {s s′ : Settings} {ls ls′ : Line Event} {r : Receiver} (k : Leads s
       let j =
       store-inj (t .assembly .joined) (t′ .assembly .joined) n (omega (arith, z .bits, z .blocks, z .slots))
       (ap (λ (r : Receiver). r .assembly .store) one) in
-      λ i. record { last = p i; near = one i .nearest; assembly = record { run = one i .assembly .run; joined = j i } }
+      let m = nears-once (t .near) (t′ .near) (ap (λ (r : Receiver). r .near) one) in
+      λ i. record { last = p i; near = m i; assembly = record { run = one i .assembly .run; joined = j i } }
 
 -- the reply of the receiver that stands for a state
 abbrev replyFrom : Settings → State → Lent → Reply

@@ -1,6 +1,6 @@
 -- The store and the lent buffer, by an act and an outcome. Assumes nothing.
-use mathlib.Core.Path.{_≡_, refl, sym, ap, _∙_}
-use mathlib.Core.Bool.{Bool, cond}
+use mathlib.Core.Path.{_≡_, refl, sym, ap, ap₂, _∙_}
+use mathlib.Core.Bool.{Bool, true, false, cond}
 use mathlib.Core.List.{List, [], _++_}
 use Prim.Native.Nat.{ℕ, zero, suc, _+_, _≤_}
 use native.Mathlib.Omega.{arith}
@@ -12,7 +12,9 @@ use Rattle.store.specs.Store.{storeOf, joinedTo, firstOver, messageBytes, hande
 use Rattle.store.proofs.Stores.{store-join}
 use Rattle.store.proofs.Messages.{handed-first}
 use Rattle.blocks.specs.declared.header.Fields.{Fields}
-use Rattle.history.specs.Step.{Outcome, single, joined, message-of, outcome-of}
+use Rattle.history.specs.Step.{Outcome, single, joined, message-of, clears, joins, joined-after, outcome-of}
+use Rattle.history.specs.declared.Act.{Act}
+use Rattle.history.specs.declared.Act.the-variants.{Stays, Ends, Opens, Takes}
 use Rattle.reports.specs.declared.read.Brought.{Brought}
 use Rattle.receiver.specs.View.{answerOf, plainAnswer, broughtBits, Tells}
 use Rattle.receiver.specs.declared.answer.Answer.{Answer}
@@ -28,6 +30,48 @@ length-brought x blocks i =
 pub handed-none : (old : List ℕ) → handed [] old ≡ old
 unfolding messageBytes bytesN
 handed-none old = refl
+
+-- ---- what an act leaves of the joined bits, and what it makes of them
+
+abbrev pub left-of : Act → List Bool → List Bool
+left-of act j = cond (clears act) [] j
+
+pub joined-is : (act : Act) (b j : List Bool) {d : Bool} → joins act ≡ d
+    → joined-after act b j ≡ cond d (left-of act j ++ b) (left-of act j)
+joined-is Stays b j e = ap (λ (d : Bool). cond d (j ++ b) j) e
+joined-is Ends b j e = ap (λ (d : Bool). cond d b []) e
+joined-is Opens b j e = ap (λ (d : Bool). cond d b []) e
+joined-is Takes b j e = ap (λ (d : Bool). cond d (j ++ b) j) e
+
+pub count-left : (act : Act) (j : List Bool) → cond (clears act) 0 (length j) ≡ length (left-of act j)
+count-left act j = go (clears act)
+  where
+    go : (c : Bool) → cond c 0 (length j) ≡ length (cond c [] j)
+    go true = refl
+    go false = refl
+
+pub store-left : (act : Act) (j : List Bool) → cond (clears act) (storeOf []) (storeOf j) ≡ storeOf (left-of act j)
+store-left act j = go (clears act)
+  where
+    go : (c : Bool) → cond c (storeOf []) (storeOf j) ≡ storeOf (cond c [] j)
+    go true = refl
+    go false = refl
+
+pub left-least : (c : Bool) (n : ℕ) → cond c 0 n ≤ n
+left-least true n = omega arith
+left-least false n = omega arith
+
+-- in numbers
+module _ (act : Act) (j b : List Bool) {at left : ℕ} (s : left ≡ cond (clears act) 0 at) (e : at ≡ length j) where
+  pub left-is : left ≡ length (left-of act j)
+  left-is = s ∙ ap (λ (n : ℕ). cond (clears act) 0 n) e ∙ count-left act j
+
+  pub none-joined : joins act ≡ false → left ≡ length (joined-after act b j)
+  none-joined d = left-is ∙ ap length (sym (joined-is act b j d))
+
+  pub some-joined : {n : ℕ} → n ≡ length b → joins act ≡ true → left + n ≡ length (joined-after act b j)
+  some-joined f d =
+      ap₂ _+_ left-is f ∙ sym (length-append (left-of act j) b) ∙ ap length (sym (joined-is act b j d))
 
 -- the bits of a store, and of a block after them
 pub join-is : {old new : List ℕ} {at : ℕ} (j b : List Bool) → old ≡ storeOf j → at ≡ length j → at + length b ≤ 4096

@@ -12,7 +12,10 @@ use Rattle.history.specs.Line.{Line, _▸_, each, Every}
 use Rattle.history.specs.Slots.{Report}
 use Rattle.history.specs.History.{History, Told, Drops}
 use Rattle.history.specs.Step.{after}
+use Rattle.history.specs.declared.Near.{Near}
+use Rattle.history.specs.declared.Nears.{Nears}
 use Rattle.reports.specs.Lent.{Lent, Event, reportRules, heard, faultIn}
+use Rattle.reports.specs.Nears.{nearsOf}
 use Rattle.reports.specs.Units.{settingsFit}
 use Rattle.reports.specs.declared.unit.Settings.{Settings}
 use Rattle.receiver.specs.View.{noAssembly, receiverOf, plainAnswer}
@@ -58,6 +61,12 @@ pub data Canonical (a : Assembly) : Type 0 where
   assembling : (joined : List Bool) → a .run .held ≡ 1 → a .run .kept ≤ a .run .more → a .run .more ≤ 14
       → a .bits ≡ length joined
       → length joined ≤ 4096 → a .store ≡ storeOf joined → Canonical a
+
+-- And its earlier headers: at most seven, which stand first, and zero after them.
+pub record Listed (n : Nears) : Type 0 where
+  pub near : List Near
+  pub few : length near ≤ 7
+  pub places : n ≡ nearsOf near
 
 -- The reply to an accepted report, and the lent buffer, before and after.
 pub record Answered (s : Settings) (ls : Line Event) (l : Lent) (r : Reply) (old new : List ℕ) : Type 0 where

@@ -2,7 +2,7 @@
 -- assembly's bits. So the receiver is a function of its settings and of the history.
 use mathlib.Core.Path.{_≡_}
 use mathlib.Core.Bool.{Bool, cond}
-use mathlib.Core.List.{List, _++_}
+use mathlib.Core.List.{List, [], _++_}
 use mathlib.Core.Option.{Option, none, some}
 use Prim.Native.Nat.{ℕ, _+_, _≤_}
 use lib.ListN.{length, take, drop, replicate}
@@ -10,13 +10,14 @@ use Rattle.bits.specs.Bits.{bitsOf, Inside}
 use Rattle.store.specs.Store.{storeOf, handed}
 use Rattle.history.specs.Slots.{no-fields}
 use Rattle.history.specs.Step as step
-use Rattle.history.specs.Step.{State, Outcome, number, message-of, fields-of, no-near, no-run, joined-after, outcome-of}
+use Rattle.history.specs.Step.{State, Outcome, number, message-of, fields-of, no-run, joined-after, outcome-of}
 use Rattle.blocks.specs.declared.header.Fields.{Fields}
 use Rattle.history.specs.declared.Place.{Place}
 use Rattle.history.specs.declared.Act.{Act}
 use Rattle.history.specs.declared.Verdict.{Verdict}
 use Rattle.history.specs.declared.What.the-variants.{Nothing}
 use Rattle.reports.specs.Lent.{Lent}
+use Rattle.reports.specs.Nears.{nearsOf}
 use Rattle.reports.specs.Reading.{headless, Reads}
 use Rattle.reports.specs.Units.{unit, settingsFit}
 use Rattle.reports.specs.declared.unit.Settings.{Settings}
@@ -41,14 +42,14 @@ assemblyOf a = record { run = a .run; bits = length (a .joined); store = storeOf
 
 abbrev pub receiverOf : Settings → State → Receiver
 receiverOf s t =
-    record { settings = s; place = placeOf (t .last); nearest = t .near; assembly = assemblyOf (t .assembly) }
+    record { settings = s; place = placeOf (t .last); near = nearsOf (t .near); assembly = assemblyOf (t .assembly) }
 
 -- One that has heard nothing.
 abbrev pub noAssembly : Assembly
 noAssembly = record { run = no-run; bits = 0; store = replicate 512 0 }
 
 abbrev pub newWith : Settings → Receiver
-newWith s = record { settings = s; place = noPlace; nearest = no-near; assembly = noAssembly }
+newWith s = record { settings = s; place = noPlace; near = nearsOf []; assembly = noAssembly }
 
 abbrev pub newReceiver : ℕ → ℕ → ℕ → Receiver
 newReceiver individual group mni = newWith (unit individual group mni)

@@ -6,10 +6,13 @@ ghost use Prim.Native.Nat.{_+_, _≤_};
 ghost use lib.ListN.{length};
 ghost use Rattle.bits.specs.Bits.{Inside};
 ghost use Rattle.store.specs.Store.{storeOf};
+ghost use Rattle.history.specs.Step.{clears};
 ghost use Rattle.receiver.specs.View.{noAssembly, broughtBits, Counted, Stored};
 use history::Act;
 use history::Open;
 use reports::read::Brought;
+use reports::run::clears;
+use reports::run::joins;
 use reports::run::no_run;
 
 // What is kept of the open run, the number of bits joined, and the store that holds them.
@@ -42,34 +45,46 @@ impl Assembly {
     }
 }
 
-// And of the number of its bits.
-pub(crate) fn older_bits(turn: bool, bits: usize) -> usize
-    ensures { λ r. ⌜ r ≡ cond turn bits 0 ⌝ }
+// And of a number: of its bits, or of the earlier headers.
+pub(crate) fn older_number(turn: bool, n: usize) -> usize
+    ensures { λ r. ⌜ r ≡ cond turn n 0 ⌝ }
 {
     if turn {
-        return bits;
+        return n;
     }
     0
 }
 
-// What becomes of them where `at` bits are joined and the report brings more: their number, and the store.
+// What an act leaves of them, before the bits that the report brings are joined: their number, and the store.
+fn start(act: Act, at: usize) -> usize
+    ensures { λ r. ⌜ r ≡ cond (clears act) 0 at ⌝ }
+{
+    if clears(act) {
+        return 0;
+    }
+    at
+}
+
+fn clear(act: Act, store: &mut [u8])
+    requires { ⌜ length (now store) ≡ 512 ⌝ }
+    ensures { λ r. ⌜ now (store .exit) ≡ cond (clears act) (storeOf []) (now (store .entry)) ⌝ }
+{
+    if !clears(act) {
+        return;
+    }
+    store::wipe(store);
+}
+
+// What becomes of them where `at` bits are joined and the report brings more.
 pub(crate) fn bits_after(act: Act, at: usize, n: usize) -> usize
     requires { ⌜ at + n ≤ 4096 ⌝ }
     ensures { λ r. ⌜ Counted act at n r ⌝ }
 {
-    match act {
-        Act::Stays => {
-            return at;
-        }
-        Act::Ends => {
-            return 0;
-        }
-        Act::Opens => {
-            return n;
-        }
-        Act::Takes => {}
+    let left = start(act, at);
+    if !joins(act) {
+        return left;
     }
-    at + n
+    left + n
 }
 
 pub(crate) fn store_after(act: Act, store: &mut [u8], at: usize, x: Brought, blocks: &[u8])
@@ -77,19 +92,10 @@ pub(crate) fn store_after(act: Act, store: &mut [u8], at: usize, x: Brought, blo
         × Inside (length (now blocks)) (x .from) (x .from + x .bits) ⌝ }
     ensures { λ r. ⌜ Stored act at (broughtBits x (now (blocks .entry))) (now (store .entry)) (now (store .exit)) ⌝ }
 {
-    match act {
-        Act::Stays => {
-            return;
-        }
-        Act::Ends => {
-            return store::wipe(store);
-        }
-        Act::Opens => {
-            store::wipe(store);
-            store::join(store, 0, blocks, x.from, x.bits);
-            return;
-        }
-        Act::Takes => {}
+    clear(act, store);
+    if !joins(act) {
+        return;
     }
-    store::join(store, at, blocks, x.from, x.bits);
+    let left = start(act, at);
+    store::join(store, left, blocks, x.from, x.bits);
 }

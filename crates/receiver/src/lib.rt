@@ -3,9 +3,10 @@ pub mod answer;
 pub mod assembly;
 
 ghost use mathlib.Core.Path.{_≡_};
-ghost use mathlib.Core.Bool.{true, cond};
+ghost use mathlib.Core.Bool.{true, false, cond};
 ghost use lib.Dec.{eqb};
 ghost use lib.ListN.{length};
+ghost use Rattle.history.specs.Step.{is-over};
 ghost use Rattle.reports.specs.Lent.{brought, lent};
 ghost use Rattle.reports.specs.Turns.{follows};
 ghost use Rattle.receiver.specs.Reached.{refusedWith, Reached, Hears};
@@ -14,15 +15,16 @@ use crate::answer::Answer;
 use crate::answer::told;
 use crate::assembly::Assembly;
 use crate::assembly::bits_after;
-use crate::assembly::older_bits;
+use crate::assembly::older_number;
 use crate::assembly::store_after;
 use blocks::fault::Fault;
-use history::Near;
+use history::Nears;
 use history::Place;
 use history::What;
-use reports::near::near_after;
-use reports::near::no_near;
-use reports::near::older_near;
+use reports::near::fall;
+use reports::near::keep;
+use reports::near::no_nears;
+use reports::near::older_places;
 use reports::place::follows;
 use reports::read::Brought;
 use reports::read::headless;
@@ -39,7 +41,7 @@ use reports::verdict::judge;
 pub struct Receiver {
     pub settings: Settings,
     pub place: Place,
-    pub nearest: Near,
+    pub near: Nears,
     pub assembly: Assembly,
 }
 
@@ -76,6 +78,16 @@ fn ticking(fault: u8, q: Place) -> Place
     q
 }
 
+// Whether its frame is over with it; one that is refused ends none.
+fn ending(fault: u8, q: Place) -> bool
+    ensures { λ r. ⌜ r ≡ cond (eqb fault 0) (is-over q) false ⌝ }
+{
+    if fault != 0 {
+        return false;
+    }
+    q.slot != 1
+}
+
 // The last place after a report.
 fn standing(fault: u8, last: Place, q: Place) -> Place
     ensures { λ r. ⌜ r ≡ cond (eqb fault 0) q last ⌝ }
@@ -105,7 +117,7 @@ impl Receiver {
         Receiver {
             settings,
             place: Place { frame: 0, slot: 0 },
-            nearest: no_near(),
+            near: no_nears(),
             assembly: Assembly::none(),
         }
     }
@@ -150,21 +162,25 @@ impl Receiver {
         let own = self.assembly.run;
         let lost = broken_off(turn, own);
         let run = older_run(turn, tick, own);
-        let before = self.nearest;
-        let near = older_near(turn, tick, before);
-        let bits = older_bits(turn, self.assembly.bits);
+        let before = self.near.places;
+        let mut places = older_places(turn, before);
+        let known = older_number(turn, self.near.count);
+        let bits = older_number(turn, self.assembly.bits);
         let mut store = self.assembly.older_store(turn);
         let x = heard(fault, settings, q, kind, blocks);
-        let v = judge(x, run, near, tick, lost);
+        let v = judge(x, run, &places, known, tick, lost);
         let joining = run.fields;
         let answer = told(v, x, joining, bits, &store, blocks, message);
         let act = v.act;
         store_after(act, &mut store, bits, x, blocks);
+        let over = ending(fault, q);
+        let left = fall(over, &mut places, known);
+        let count = keep(v.near, over, x, &mut places, left);
         Reply {
             receiver: Receiver {
                 settings,
                 place: standing(fault, last, q),
-                nearest: near_after(v.near, x, near),
+                near: Nears { count, places },
                 assembly: Assembly {
                     run: run_after(act, x, q.frame, run),
                     bits: bits_after(act, bits, x.bits),

@@ -1,4 +1,7 @@
 pub mod Counting
+pub mod NearLaws
+pub mod Variants
 pub mod RuleLaws
 pub mod Readings
+pub mod FlagLaws
 pub mod ReadLaws

@@ -3,3 +3,4 @@ pub mod Lent
 pub mod Turns
 pub mod Units
 pub mod Reading
+pub mod Nears

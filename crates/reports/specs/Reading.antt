@@ -6,9 +6,18 @@ use lib.ListN.{length, take, drop}
 use Rattle.bits.specs.Bits.{bitsOf, Inside}
 use Rattle.history.specs.Slots.{no-fields, no-raw, Heard, what-in, header-in, more-in, countdown-in, bits-in}
 use Rattle.history.specs.declared.What.{What}
+use Rattle.history.specs.declared.What.the-variants.{Nothing, Fragmented, Unfragmented, Frag, End}
 use Rattle.reports.specs.Lent.{Lent, heard, faultIn}
 use Rattle.reports.specs.declared.unit.Settings.{Settings}
 use Rattle.reports.specs.declared.read.Brought.{Brought}
+
+-- The number of what it brings, in the order of `What`.
+abbrev pub numberOf : What → ℕ
+numberOf Nothing = 0
+numberOf Fragmented = 1
+numberOf Unfragmented = 2
+numberOf Frag = 3
+numberOf End = 4
 
 abbrev pub broughtOf : Heard → ℕ → ℕ → Brought
 broughtOf x fault from =

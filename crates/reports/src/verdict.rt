@@ -3,14 +3,17 @@
 ghost use mathlib.Core.Path.{_≡_};
 ghost use mathlib.Core.Bool.{cond, not};
 ghost use Prim.Native.Nat.{_≤_};
+ghost use lib.Dec.{eqb};
+ghost use lib.ListN.{length};
 ghost use Rattle.history.specs.Step.{verdict, missed, passed, on-nothing, on-frag, on-end};
-ghost use Rattle.history.specs.Step.{on-fragmented, on-unfragmented, judge};
-use crate::near::repeats;
+ghost use Rattle.history.specs.Step.{on-fragmented, on-unfragmented};
+ghost use Rattle.reports.specs.Nears.{Judged};
+ghost use Rattle.reports.specs.Reading.{numberOf};
+use crate::near::copied;
 use crate::read::Brought;
 use crate::run::is_due;
 use crate::run::renews;
 use history::Act;
-use history::Near;
 use history::Open;
 use history::Outcome;
 use history::Place;
@@ -96,7 +99,7 @@ fn on_fragmented(meant: bool, held: bool, renewed: bool, lost: bool) -> Verdict
     if !meant {
         return verdict(Outcome::NOTHING, dropped, Act::Ends, false);
     }
-    verdict(Outcome::OPENED, dropped, Act::Opens, true)
+    verdict(Outcome::OPENED, dropped, Act::Opens, false)
 }
 
 // An unfragmented header was heard: to an open assembly it is as if nothing was heard.
@@ -109,37 +112,54 @@ fn on_unfragmented(due: bool, meant: bool, copied: bool, lost: bool) -> Verdict
     }
     let act = p.act;
     if copied {
-        return verdict(Outcome::COPY, p.dropped, act, true);
+        return verdict(Outcome::COPY, p.dropped, act, false);
     }
     verdict(Outcome::UNFRAGMENTED, p.dropped, act, true)
 }
 
-// By what the report in slot `q` brings, over what is left of the open run and of the nearest header.
-pub fn judge(x: Brought, a: Open, n: Near, q: Place, lost: bool) -> Verdict
-    requires { ⌜ (a .frame ≤ 18) × (a .countdown ≤ 3) × (a .kept ≤ 14) ⌝ }
-    ensures { λ r. ⌜ r ≡ judge (x .what) a n q (x .meant) (x .raw) (x .countdown) lost ⌝ }
+// The number of what a report brings, in the order of `What`.
+fn number(what: What) -> u8
+    ensures { λ r. ⌜ r ≡ numberOf what ⌝ }
+{
+    match what {
+        What::Nothing => 0,
+        What::Fragmented => 1,
+        What::Unfragmented => 2,
+        What::Frag => 3,
+        What::End => 4,
+    }
+}
+
+// Whether it brings this.
+fn is(what: What, other: What) -> bool
+    ensures { λ r. ⌜ r ≡ eqb (numberOf what) (numberOf other) ⌝ }
+{
+    number(what) == number(other)
+}
+
+// By what the report in slot `q` brings, over what is left of the open run and of the earlier headers.
+pub fn judge(x: Brought, a: Open, places: &[u64], count: usize, q: Place, lost: bool) -> Verdict
+    requires { ⌜ ((a .frame ≤ 18) × (a .countdown ≤ 3) × (a .kept ≤ 14))
+        × (count ≤ 7) × (length (now places) ≡ 21) ⌝ }
+    ensures { λ r. ⌜ Judged x a (now (places .entry)) count q lost r ⌝ }
 {
     let due = is_due(a, q);
     let last = a.kept == a.more;
     let raw = x.raw;
     let what = x.what;
-    match what {
-        What::Nothing => {
-            return on_nothing(due, lost);
-        }
-        What::Fragmented => {
-            let renewed = renews(a, x.meant, raw, x.countdown);
-            return on_fragmented(x.meant, a.held == 1, renewed, lost);
-        }
-        What::Unfragmented => {
-            let near = n.raw;
-            let copied = repeats(near, n.again, raw, x.countdown);
-            return on_unfragmented(due, x.meant, copied, lost);
-        }
-        What::Frag => {
-            return on_frag(due, last, lost);
-        }
-        What::End => {}
+    if is(what, What::Nothing) {
+        return on_nothing(due, lost);
+    }
+    if is(what, What::Fragmented) {
+        let renewed = renews(a, x.meant, raw, x.countdown);
+        return on_fragmented(x.meant, a.held == 1, renewed, lost);
+    }
+    if is(what, What::Unfragmented) {
+        let copy = copied(places, count, raw, x.countdown);
+        return on_unfragmented(due, x.meant, copy, lost);
+    }
+    if is(what, What::Frag) {
+        return on_frag(due, last, lost);
     }
     on_end(due, last, lost)
 }

@@ -1,6 +1,7 @@
 //! The fixed sheet of reports: a slot log over every rule of the receiver, for one unit.
 
-use super::logs::{after, draw_message, episodes, for_another, for_this_unit, push, send, Slot};
+use super::logs::{after, draw_message, episodes, for_another, for_this_unit};
+use super::logs::{headers_in, merge, push, send, Slot};
 use super::parts::{damage_continuation, draw_continuation, record};
 use super::parts::{Message, Raw, Unit, HEADER_FAULTS};
 use super::records;
@@ -34,6 +35,11 @@ pub fn slots() -> Vec<u8> {
     sheet.every_change();
     sheet.every_countdown();
     sheet.every_copy();
+    sheet.every_two_in_turn();
+    sheet.every_three_in_turn();
+    sheet.every_one_again();
+    sheet.every_three_countdowns();
+    sheet.every_change_among_copies();
     sheet.every_header_fault();
     sheet.every_place();
     sheet.mutated();
@@ -121,6 +127,103 @@ impl Sheet {
         }
     }
 
+    /// So many unfragmented messages for this unit.
+    fn short_ones(&mut self, count: usize) -> Vec<Message> {
+        (0..count)
+            .map(|_| for_this_unit(&mut self.rng, &self.unit, false))
+            .collect()
+    }
+
+    /// Two messages in turn, with every two countdowns; the second is for this unit or another,
+    /// fragmented or not.
+    fn every_two_in_turn(&mut self) {
+        for (ours, fragmented) in [(true, false), (true, true), (false, false), (false, true)] {
+            for f in 0..=3 {
+                for g in 0..=3 {
+                    let first = for_this_unit(&mut self.rng, &self.unit, false);
+                    let second = draw_message(&mut self.rng, &self.unit, ours, fragmented);
+                    let x = self.rng.between(1, 18) as u8;
+                    self.tell(&two_in_turn((&first, f), (&second, g), x));
+                }
+            }
+        }
+    }
+
+    /// Three messages in every order, and then each of them in its place for another unit,
+    /// fragmented, or the same as its neighbour.
+    fn every_three_in_turn(&mut self) {
+        for (first, second) in [(0, 1), (0, 2), (1, 0), (1, 2), (2, 0), (2, 1)] {
+            let messages = self.short_ones(3);
+            self.three_in_turn(&messages, [first, second, 3 - first - second]);
+        }
+        for odd in 0..3 {
+            for sort in 0..4 {
+                let mut messages = self.short_ones(3);
+                messages[odd] = match sort {
+                    0 => for_another(&mut self.rng, &self.unit, false),
+                    1 => for_another(&mut self.rng, &self.unit, true),
+                    2 => self.message(2),
+                    _ => messages[(odd + 1) % 3].clone(),
+                };
+                self.three_in_turn(&messages, [0, 1, 2]);
+            }
+        }
+    }
+
+    /// Three messages that begin in the same slot; one of them is heard, then the next.
+    fn three_in_turn(&mut self, messages: &[Message], order: [usize; 3]) {
+        let x = self.rng.between(1, 18) as u8;
+        let runs: Vec<Vec<Slot>> = messages.iter().map(|message| send(message, x, 3)).collect();
+        let mut turns = order.into_iter().cycle();
+        let heard = merge(&runs, |on_air| {
+            let next = turns.find(|turn| on_air.contains(turn));
+            next.expect("it is one of the three")
+        });
+        self.tell(&heard);
+    }
+
+    /// One to eight headers, each in a slot of its own, and in the next slot each of them again.
+    fn every_one_again(&mut self) {
+        for count in 1..=8 {
+            for again in 0..count {
+                for slot in [1, 3] {
+                    let messages = self.short_ones(count);
+                    let place = (self.rng.between(1, 18) as u8, slot);
+                    self.tell(&once_and_again(&messages, place, again));
+                }
+            }
+        }
+    }
+
+    /// Two messages in turn, three times each, with every three countdowns.
+    fn every_three_countdowns(&mut self) {
+        for number in 0..64 {
+            let messages = self.short_ones(2);
+            let mut slots = Vec::new();
+            let mut place = (self.rng.between(1, 18) as u8, 1);
+            for countdown in [number / 16, number / 4 % 4, number % 4] {
+                for message in &messages {
+                    let header = message.blocks(place.0, place.1, countdown);
+                    place = push(&mut slots, place, 2, header[0].clone());
+                }
+            }
+            self.tell(&slots);
+        }
+    }
+
+    /// Every change within the headers of two messages in turn.
+    fn every_change_among_copies(&mut self) {
+        for change in CHANGES.into_iter().chain(COPIES) {
+            for at in [2, 3, 5] {
+                let messages = self.short_ones(2);
+                let x = self.rng.between(1, 18) as u8;
+                let mut run = two_in_turn((&messages[0], 3), (&messages[1], 3), x);
+                change(&mut self.rng, &self.unit, &mut run, at);
+                self.tell(&run);
+            }
+        }
+    }
+
     /// Every fault of a header by itself, and every two of them.
     fn every_header_fault(&mut self) {
         for first in HEADER_FAULTS {
@@ -184,6 +287,29 @@ fn twice(message: &Message, place: (u8, u8), countdowns: (u8, u8), gap: usize) -
         next = push(&mut slots, next, 1, Vec::new());
     }
     push(&mut slots, next, 2, header(next, countdowns.1));
+    slots
+}
+
+/// Two messages with their countdowns: the headers of the first in slot 1, of the second in slot 3.
+fn two_in_turn(first: (&Message, u8), second: (&Message, u8), x: u8) -> Vec<Slot> {
+    let mut runs = [send(first.0, x, first.1), send(second.0, x, second.1)];
+    headers_in(&mut runs[0], &[1]);
+    headers_in(&mut runs[1], &[3]);
+    merge(&runs, |on_air| on_air[0])
+}
+
+/// Headers with countdown 3, one slot after the other, and one of them again, its countdown less
+/// by the frames gone by, or 3 again after four.
+fn once_and_again(messages: &[Message], place: (u8, u8), again: usize) -> Vec<Slot> {
+    let mut slots = Vec::new();
+    let mut next = place;
+    for message in messages {
+        let header = message.blocks(next.0, next.1, 3);
+        next = push(&mut slots, next, 2, header[0].clone());
+    }
+    let gone = (next.0 + 18 - slots[again].frame) % 18;
+    let header = messages[again].blocks(next.0, next.1, 3 - gone % 4);
+    push(&mut slots, next, 2, header[0].clone());
     slots
 }
 

@@ -1,4 +1,4 @@
-//! Random slot logs: messages in their slots with their repeats, then mutated.
+//! Random slot logs: messages in their slots with their repeats, one by one and several in turn, then mutated.
 
 use super::parts::{damage_continuation, draw_continuation, record};
 use super::parts::{Message, Raw, Unit, HEADER_FAULTS};
@@ -160,24 +160,123 @@ fn idle(rng: &mut Rng, slots: &mut Vec<Slot>, mut place: (u8, u8)) -> (u8, u8) {
     place
 }
 
-/// One message in its slots, or two unfragmented ones in turn.
+/// One message in its slots, or several in turn.
 fn draw_run(rng: &mut Rng, unit: &Unit, x: u8) -> Vec<Slot> {
     let f = rng.below(4) as u8;
-    match rng.below(20) {
+    match rng.below(24) {
         0 => longest(rng, unit, x),
         1..=9 => send(&for_this_unit(rng, unit, true), x, f),
         10..=14 => send(&for_this_unit(rng, unit, false), x, f),
         15 => send(&for_another(rng, unit, true), x, f),
         16 => send(&for_another(rng, unit, false), x, f),
         17 => send_twice(&for_this_unit(rng, unit, true), x, f),
-        _ => {
-            let mut run = send(&for_this_unit(rng, unit, false), x, f);
-            let ours = rng.chance(50);
-            let other = draw_message(rng, unit, ours, false);
-            interleave(rng, &mut run, &send(&other, x, f));
-            run
+        18..=22 => in_turn(rng, unit, x),
+        _ => crowd(rng, unit, x),
+    }
+}
+
+/// Two or three senders, slot by slot, each with a countdown of its own. Where more than one is
+/// on the air one is heard: each in its turn, or any.
+fn in_turn(rng: &mut Rng, unit: &Unit, x: u8) -> Vec<Slot> {
+    let mut messages: Vec<Message> = Vec::new();
+    let mut runs = Vec::new();
+    for _ in 0..rng.pick(&[2, 3]) {
+        let message = draw_sender(rng, unit, &messages);
+        runs.push(send_in_some_slots(rng, &message, x));
+        messages.push(message);
+    }
+    let (each_in_turn, mut last) = (rng.chance(50), 0);
+    merge(&runs, |on_air| {
+        let next = on_air.iter().find(|&&run| run > last);
+        let next = *next.unwrap_or(&on_air[0]);
+        last = if each_in_turn { next } else { rng.pick(on_air) };
+        last
+    })
+}
+
+/// What a further sender sends: mostly a message of its own, now and then that of one before it,
+/// the same begun anew or with another source, destination or message bit.
+fn draw_sender(rng: &mut Rng, unit: &Unit, before: &[Message]) -> Message {
+    if before.is_empty() || rng.chance(70) {
+        let (ours, fragmented) = (rng.chance(85), rng.chance(25));
+        return draw_message(rng, unit, ours, fragmented);
+    }
+    let mut message = before[rng.index(before.len())].clone();
+    let fields = &mut message.fields;
+    match rng.below(4) {
+        0 if fields.source_type != NO_ADDRESS => fields.source ^= 1,
+        1 if fields.dest_type != NO_ADDRESS => fields.dest ^= unit.individual ^ unit.group,
+        2 if !message.bits.is_empty() => {
+            let at = rng.index(message.bits.len());
+            message.bits[at] ^= true;
+        }
+        _ => (),
+    }
+    message
+}
+
+/// A message from up to two frames after X on, its headers in slot 1, in slot 3 or in both.
+fn send_in_some_slots(rng: &mut Rng, message: &Message, x: u8) -> Vec<Slot> {
+    let mut slots = Vec::new();
+    let mut place = (x, 1);
+    for _ in 0..2 * rng.pick(&[0, 0, 0, 1, 2]) {
+        place = push(&mut slots, place, 1, Vec::new());
+    }
+    slots.extend(send(message, place.0, rng.pick(&[1, 2, 3, 3, 3])));
+    let heard = rng.pick(&[&[1][..], &[3], &[1, 3], &[1, 3], &[1, 3]]);
+    headers_in(&mut slots, heard);
+    slots
+}
+
+/// Leaves a run's headers in these slots alone.
+pub fn headers_in(run: &mut [Slot], slots: &[u8]) {
+    let missed = |slot: &&mut Slot| slot.kind == 2 && !slots.contains(&slot.slot);
+    run.iter_mut()
+        .filter(missed)
+        .for_each(|slot| slot.put(1, Vec::new()));
+}
+
+/// Runs that begin in the same slot, as they are heard: of those that bring something in a slot
+/// the one that `pick` names.
+pub fn merge(runs: &[Vec<Slot>], mut pick: impl FnMut(&[usize]) -> usize) -> Vec<Slot> {
+    let longest = runs.iter().max_by_key(|run| run.len());
+    let mut merged = longest.cloned().unwrap_or_default();
+    for (at, slot) in merged.iter_mut().enumerate() {
+        let brings = |&run: &usize| runs[run].get(at).is_some_and(|slot| slot.kind != 1);
+        let on_air: Vec<usize> = (0..runs.len()).filter(brings).collect();
+        if !on_air.is_empty() {
+            *slot = runs[pick(&on_air)][at].clone();
         }
     }
+    merged
+}
+
+/// Five to eight different headers, one in each slot, and then those again that still can come,
+/// mostly the one that was heard first.
+fn crowd(rng: &mut Rng, unit: &Unit, x: u8) -> Vec<Slot> {
+    let count = rng.pick(&[5, 6, 7, 7, 7, 8]);
+    let messages: Vec<Message> = (0..count)
+        .map(|_| for_this_unit(rng, unit, false))
+        .collect();
+    let mut slots = Vec::new();
+    let mut place = (x, 1);
+    for at in 0..count + 7 {
+        let first = if at < count { at } else { earliest(at) };
+        if first < count {
+            let other = at >= count && rng.chance(30);
+            let from = first + rng.index(if other { count - first } else { 1 });
+            let countdown = 3 - (at / 2 - from / 2) as u8;
+            let header = messages[from].blocks(place.0, place.1, countdown);
+            place = push(&mut slots, place, 2, header[0].clone());
+        }
+    }
+    slots
+}
+
+/// The first slot whose header can come again in this one, both counted from a slot 1: it is
+/// three frames back.
+fn earliest(at: usize) -> usize {
+    2 * (at / 2).saturating_sub(3)
 }
 
 /// Fourteen or fifteen blocks after four frames of headers, of which one is heard.

@@ -1,8 +1,10 @@
 //! How often each answer comes in the made inputs of a range of seeds.
 
 use super::{calls, log, reports, transport};
-use crate::{log::print, probe::probe};
-use std::collections::BTreeMap;
+use crate::blocks::{read_header, SCH_S_BYTES};
+use crate::log::{print, Record, Records};
+use crate::probe::probe;
+use std::collections::{BTreeMap, BTreeSet};
 use std::fmt::Write;
 
 /// Counts by what is counted, for the logs and for each sort of call.
@@ -25,13 +27,18 @@ const COLUMNS: [&str; 10] = [
 pub fn stats(from: u64, to: u64) -> String {
     let mut counts = rows();
     for seed in from..=to {
-        for line in print(&log(seed)).lines() {
+        let given = log(seed);
+        let printed = print(&given);
+        for line in printed.lines() {
             count_log_line(&mut counts, line);
         }
+        count_copies(&mut counts, 0, Records::new(&given).skip(1), &printed);
         for given in [calls(seed), reports(seed), transport(seed)] {
-            for line in probe(&given).lines() {
+            let printed = probe(&given);
+            for line in printed.lines() {
                 count_call_line(&mut counts, line);
             }
+            count_copies(&mut counts, 1, Records::new(&given), &printed);
         }
     }
     table(&counts)
@@ -44,10 +51,11 @@ fn rows() -> Counts {
     let faults = faults.map(|fault| fault_row(&fault.to_string()));
     let kinds = (0..=4).map(|kind| kind_row(&kind.to_string()));
     let marks = (0..=2).map(|mark| mark_row(&mark.to_string()));
+    let copies = (0..=6).map(past_row);
     let others = ["dropped 1", "line"].into_iter().map(String::from);
     let words = ["unit", "kind", "cut", "bookings"].map(|word| format!("word {word}"));
     let names = outcomes.chain(faults).chain(kinds).chain(marks);
-    let names = names.chain(others).chain(words);
+    let names = names.chain(copies).chain(others).chain(words);
     names.map(|name| (name, [0; COLUMNS.len()])).collect()
 }
 
@@ -67,6 +75,11 @@ fn kind_row(kind: &str) -> String {
 /// What a booking was marked with.
 fn mark_row(mark: &str) -> String {
     format!("mark {mark}")
+}
+
+/// A copy with so many other messages between it and the header that it repeats.
+fn past_row(others: usize) -> String {
+    format!("copy past {others}")
 }
 
 fn add(counts: &mut Counts, name: String, column: usize) {
@@ -111,6 +124,54 @@ fn count_call_line(counts: &mut Counts, line: &str) {
         ["bookings"] => add(counts, format!("word {line}"), COLUMNS.len() - 1),
         _ => add(counts, format!("word {line}"), 1),
     }
+}
+
+/// What a header has in common with its repeats: the SCH/H bits but for the countdown, and the
+/// frame in which that runs out.
+type Sent = (Vec<bool>, u64);
+
+/// Counts the copies by how many other headers for this unit, repeats apart, came since the one
+/// that each repeats. Each record has its line.
+fn count_copies<'a>(
+    counts: &mut Counts,
+    column: usize,
+    records: impl Iterator<Item = Record<'a>>,
+    lines: &str,
+) {
+    let mut heard: Vec<Sent> = Vec::new();
+    let mut frames = 0;
+    for (record, line) in records.zip(lines.lines()) {
+        let (Record::Whole(kind, body), Some(outcome)) = (record, accepted(line)) else {
+            continue;
+        };
+        frames += u64::from(body[1] == 1);
+        if !["1", "3", "5"].contains(&outcome) {
+            continue;
+        }
+        // The blocks of a log's report stand after frame and slot, those of a call's after five bytes.
+        let blocks = &body[if kind == 4 { 5 } else { 2 }..];
+        if let Ok(header) = read_header(&blocks[..SCH_S_BYTES], &blocks[SCH_S_BYTES..], None) {
+            let sent = (header.but_for_countdown(), frames + header.fields.countdown);
+            if outcome == "5" {
+                let since = heard.iter().rev().take_while(|&other| *other != sent);
+                let others: BTreeSet<&Sent> = since.collect();
+                add(counts, past_row(others.len()), column);
+            }
+            heard.push(sent);
+        }
+    }
+}
+
+/// The outcome of a report that was not refused.
+fn accepted(line: &str) -> Option<&str> {
+    let words: Vec<&str> = line.split(' ').collect();
+    let (outcome, fault) = match words[..] {
+        ["report", outcome, _, fault, ..] => (outcome, fault),
+        [_, _, outcome, _, fault, _] => (outcome, fault),
+        _ => return None,
+    };
+    let refused = ["15", "16", "1", "17"].contains(&fault);
+    (!refused).then_some(outcome)
 }
 
 fn table(counts: &Counts) -> String {
@@ -170,6 +231,20 @@ mod tests {
         for mark in 0..=2 {
             assert!(count(mark_row(&mark.to_string()), "book") > 100);
         }
+    }
+
+    /// The reports alone: copies with none to six other messages between them and what they repeat.
+    #[test]
+    fn copies_with_others_between_come() {
+        let mut counts = Counts::new();
+        for seed in 1..=20 {
+            let given = reports(seed);
+            count_copies(&mut counts, 1, Records::new(&given), &probe(&given));
+        }
+        let count = |others| counts.get(&past_row(others)).map_or(0, |row| row[1]);
+        assert!(count(0) > 300 && count(1) > 60, "{counts:?}");
+        assert!((2..=6).all(|others| count(others) > 3), "{counts:?}");
+        assert_eq!(counts.len(), 7, "{counts:?}");
     }
 
     #[test]

@@ -2,7 +2,8 @@ use mathlib.Core.Path.{refl, sym, _∙_}
 use native.Mathlib.Omega.{arith}
 use Rattle.reports.specs.Lent.{lent}
 use Rattle.receiver.proofs.AcceptedLaws.{passes}
-use Rattle.receiver.proofs.HearLaws.{run-small, bits-small, few-outcomes, tells-inside, replied}
+use Rattle.receiver.proofs.HearLaws.{run-small, bits-small, kept-near, count-few, judged-kept, left-few}
+use Rattle.receiver.proofs.HearLaws.{left-free, few-outcomes, tells-inside, replied}
 use borrow.Author.Needs.{needs}
 use Rattle.receiver.proofs.Receiver.reply.Statement.{statement}
 use Rattle.receiver.proofs.Receiver.reply.Tie as tie
@@ -19,28 +20,41 @@ broken-off-requires c κs = search needs
 older-run-requires : tie.Need-older-run-requires
 older-run-requires c κs = search needs
 
-older-near-requires : tie.Need-older-near-requires
-older-near-requires c κs = search needs
+older-places-requires : tie.Need-older-places-requires
+older-places-requires c κs = search needs
 
-older-bits-requires : tie.Need-older-bits-requires
-older-bits-requires c κs = search needs
+older-number-requires : tie.Need-older-number-requires
+older-number-requires c κs = search needs
+
+older-number-requires-2 : tie.Need-older-number-requires-2
+older-number-requires-2 c κs = search needs
 
 older-store-requires : tie.Need-older-store-requires
 older-store-requires c κs = search needs
 
 heard-requires : tie.Need-heard-requires
 heard-requires c κs =
-    let g = c .before .before .before .before .before .before .before .before .before .before .before .before .before in
+    let h = c .before .before .before .before .before .before .before in
+    let g = h .before .before .before .before .before .before .before in
     let a = g .args in
     λ z. passes (lent (a .q .frame) (a .q .slot) (a .kind) (a .blocks .now)) (a .message .now) (sym (g .pre .1) ∙ z) .1
 
+slice-aggregate-judge : tie.Need-slice-aggregate-judge
+slice-aggregate-judge c = search needs
+
 judge-requires : tie.Need-judge-requires
-judge-requires c κs =
-    let r = c .before .before .before .before .before in
-    let k = r .before .before .before in
-    let f = k .before in
-    let g = f .before .before .before .before .before in
-    run-small (g .pre .0) (f .in-turn .result) (k .ticking .result) (r .older-run .ensures)
+judge-requires c κs = (
+  let r = c .before .before .before .before .before .before .before in
+      let k = r .before .before .before in
+      let f = k .before in
+      let g = f .before .before .before .before .before in
+      run-small (g .pre .0) (f .in-turn .result) (k .ticking .result) (r .older-run .ensures),
+  let n = c .before .before .before .before in
+      let f = n .before .before .before .before .before .before .before in
+      let g = f .before .before .before .before .before in
+      count-few (g .pre .0) (f .in-turn .result) (n .older-number .ensures),
+  search needs,
+)
 
 slice-aggregate-told : tie.Need-slice-aggregate-told
 slice-aggregate-told c = search needs
@@ -48,32 +62,42 @@ slice-aggregate-told c = search needs
 told-requires : tie.Need-told-requires
 told-requires c κs = (
   let v = c .before .before .before in
-      let x = v .before in
-      let m = x .before .before .before in
-      let r = m .before .before in
+      let x = v .before .before in
+      let n = x .before .before .before in
+      let p = n .before in
+      let r = p .before .before in
       let u = r .before in
       let k = u .before .before in
-      few-outcomes (x .heard .ensures) (r .older-run .result) (m .older-near .result) (k .ticking .result)
-      (u .broken-off .result) (v .judge .ensures),
-  search needs,
-  let x = c .before .before .before .before in
-      let o = x .before .before in
-      let f = o .before .before .before .before .before .before .before in
+      let f = k .before in
       let g = f .before .before .before .before .before in
-      omega (arith, bits-small (g .pre .0) (f .in-turn .result) (o .older-bits .ensures), x .heard .ensures .few),
-  let x = c .before .before .before .before in
+      few-outcomes (x .heard .ensures) (r .older-run .result) (kept-near (g .pre .0) (f .in-turn .result))
+      (k .ticking .result) (u .broken-off .result)
+      (judged-kept (g .pre .0) (f .in-turn .result) (n .older-number .ensures) (p .older-places .ensures)
+      (x .heard .result) (r .older-run .result) (k .ticking .result) (u .broken-off .result) (v .judge .ensures)),
+  search needs,
+  let x = c .before .before .before .before .before in
+      let o = x .before .before in
+      let f = o .before .before .before .before .before .before .before .before in
+      let g = f .before .before .before .before .before in
+      omega (arith, bits-small (g .pre .0) (f .in-turn .result) (o .older-number2 .ensures), x .heard .ensures .few),
+  let x = c .before .before .before .before .before in
       x .heard .ensures .inside,
   let v = c .before .before .before in
-      let x = v .before in
-      let m = x .before .before .before in
-      let r = m .before .before in
+      let x = v .before .before in
+      let n = x .before .before .before in
+      let p = n .before in
+      let r = p .before .before in
       let u = r .before in
       let k = u .before .before in
-      let g = k .before .before .before .before .before .before in
+      let f = k .before in
+      let g = f .before .before .before .before .before in
       let a = g .args in
       let l = lent (a .q .frame) (a .q .slot) (a .kind) (a .blocks .now) in
-      tells-inside (x .heard .ensures) (r .older-run .result) (m .older-near .result) (k .ticking .result)
-      (u .broken-off .result) (v .judge .ensures) (λ z. passes l (a .message .now) (sym (g .pre .1) ∙ z) .2),
+      tells-inside (x .heard .ensures) (r .older-run .result) (kept-near (g .pre .0) (f .in-turn .result))
+      (k .ticking .result) (u .broken-off .result)
+      (judged-kept (g .pre .0) (f .in-turn .result) (n .older-number .ensures) (p .older-places .ensures)
+      (x .heard .result) (r .older-run .result) (k .ticking .result) (u .broken-off .result) (v .judge .ensures))
+      (λ z. passes l (a .message .now) (sym (g .pre .1) ∙ z) .2),
 )
 
 slice-aggregate-store-after : tie.Need-slice-aggregate-store-after
@@ -82,55 +106,112 @@ slice-aggregate-store-after c = search needs
 store-after-requires : tie.Need-store-after-requires
 store-after-requires c κs = (
   search needs,
-  let x = c .before .before .before .before .before .before .before .before in
+  let x = c .before .before .before .before .before .before .before .before .before in
       let o = x .before .before in
-      let f = o .before .before .before .before .before .before .before in
+      let f = o .before .before .before .before .before .before .before .before in
       let g = f .before .before .before .before .before in
-      omega (arith, bits-small (g .pre .0) (f .in-turn .result) (o .older-bits .ensures), x .heard .ensures .few),
-  let x = c .before .before .before .before .before .before .before .before in
+      omega (arith, bits-small (g .pre .0) (f .in-turn .result) (o .older-number2 .ensures), x .heard .ensures .few),
+  let x = c .before .before .before .before .before .before .before .before .before in
       x .heard .ensures .inside,
+)
+
+ending-requires : tie.Need-ending-requires
+ending-requires c κs = search needs
+
+slice-aggregate-fall : tie.Need-slice-aggregate-fall
+slice-aggregate-fall c =
+    let h = c .before .before .before .before .before .before .before .before in
+    let p = h .before .before .before .before .before .before .before .before .before in
+    search (needs, p .older-places)
+
+fall-requires : tie.Need-fall-requires
+fall-requires c κs = (
+  let h = c .before .before .before .before .before .before .before .before in
+      let n = h .before .before .before .before .before .before .before .before in
+      let f = n .before .before .before .before .before .before .before in
+      let g = f .before .before .before .before .before in
+      count-few (g .pre .0) (f .in-turn .result) (n .older-number .ensures),
+  let h = c .before .before .before .before .before .before .before .before in
+      let p = h .before .before .before .before .before .before .before .before .before in
+      search (needs, p .older-places),
+)
+
+slice-aggregate-keep : tie.Need-slice-aggregate-keep
+slice-aggregate-keep c = search needs
+
+keep-requires : tie.Need-keep-requires
+keep-requires c κs = (
+  let w = c .before .before in
+      let y = w .before .before in
+      let v = y .before .before .before .before .before .before .before .before .before .before in
+      let x = v .before .before in
+      let n = x .before .before .before in
+      let p = n .before in
+      let r = p .before .before in
+      let u = r .before in
+      let k = u .before .before in
+      let f = k .before in
+      let g = f .before .before .before .before .before in
+      let a = g .args in
+      let l = lent (a .q .frame) (a .q .slot) (a .kind) (a .blocks .now) in
+      left-free (g .pre .0) (f .in-turn .result) (n .older-number .ensures) (p .older-places .ensures)
+      (y .ending .result) (w .fall .ensures) (a .fault) l (f .in-turn .ensures) (y .ending .ensures) (x .heard .ensures)
+      (r .older-run .result) (k .ticking .result) (u .broken-off .result) (v .judge .ensures),
+  let w = c .before .before in
+      let y = w .before .before in
+      let h = y .before .before .before .before .before .before .before in
+      let n = h .before .before .before .before .before .before .before .before in
+      let f = n .before .before .before .before .before .before .before in
+      let g = f .before .before .before .before .before in
+      left-few (g .pre .0) (f .in-turn .result) (n .older-number .ensures) (n .before .older-places .ensures)
+      (y .ending .result) (w .fall .ensures),
+  search needs,
 )
 
 standing-requires : tie.Need-standing-requires
 standing-requires c κs = search needs
 
-near-after-requires : tie.Need-near-after-requires
-near-after-requires c κs =
-    let x = c .before .before .before .before .before .before .before .before .before .before .before in
-    x .heard .ensures .falls
-
 run-after-requires : tie.Need-run-after-requires
 run-after-requires c κs =
-    let x = c .before .before .before .before .before .before .before .before .before .before .before .before in
-    let r = x .before .before .before .before .before in
+    let h = c .before .before .before .before .before .before .before .before .before in
+    let x = h .before .before .before .before .before .before .before .before .before .before in
+    let r = x .before .before .before .before .before .before in
     let k = r .before .before .before in
     let f = k .before in
     let g = f .before .before .before .before .before in
-    (x .heard .ensures .falls, run-small (g .pre .0) (f .in-turn .result) (k .ticking .result) (r .older-run .ensures) .2)
+    let s = run-small (g .pre .0) (f .in-turn .result) (k .ticking .result) (r .older-run .ensures) in
+    (x .heard .ensures .falls, s .2)
 
 bits-after-requires : tie.Need-bits-after-requires
 bits-after-requires c κs =
-    let x = c .before .before .before .before .before .before .before .before .before .before .before .before .before in
+    let h = c .before .before .before .before .before .before .before .before .before .before in
+    let x = h .before .before .before .before .before .before .before .before .before .before in
     let o = x .before .before in
-    let f = o .before .before .before .before .before .before .before in
+    let f = o .before .before .before .before .before .before .before .before in
     let g = f .before .before .before .before .before in
-    omega (arith, bits-small (g .pre .0) (f .in-turn .result) (o .older-bits .ensures), x .heard .ensures .few)
+    omega (arith, bits-small (g .pre .0) (f .in-turn .result) (o .older-number2 .ensures), x .heard .ensures .few)
 
 same-length : tie.Need-same-length
-same-length c = search needs
+same-length c =
+    let h = c .before .before .before .before .before .before .before in
+    let m = h .before .before .before .before .before .before .before in
+    search (needs, m .message)
 
 returns : tie.Need-returns
 returns c =
-    let n = c .before .before in
-    let p = n .before in
-    let w = p .before .before in
-    let t = w .before .before .before .before in
+    let s = c .before .before in
+    let h = s .before .before in
+    let w = h .before .before .before in
+    let y = w .before .before in
+    let d = y .before .before in
+    let t = d .before .before .before .before in
     let v = t .before .before .before .before in
-    let x = v .before in
-    let s = x .before in
-    let o = s .before in
-    let m = o .before in
-    let r = m .before .before in
+    let x = v .before .before in
+    let z = x .before in
+    let o = z .before in
+    let n = o .before in
+    let p = n .before in
+    let r = p .before .before in
     let l = r .before in
     let k = l .before .before in
     let f = k .before in
@@ -142,27 +223,34 @@ returns c =
       tick = k .ticking .result;
       lost = l .broken-off .result;
       run = r .older-run .result;
-      near = m .older-near .result;
-      bits = o .older-bits .result;
-      store = s .older-store .result;
+      known = n .older-number .result;
+      places = p .older-places .result;
+      bits = o .older-number2 .result;
+      store = z .older-store .result;
       x = x .heard .result;
       v = v .judge .result;
+      over = y .ending .result;
+      left = w .fall .result;
+      fallen = _;
       turn-is = f .in-turn .ensures;
       tick-is = k .ticking .ensures;
       lost-is = l .broken-off .ensures;
       run-is = r .older-run .ensures;
-      near-is = m .older-near .ensures;
-      bits-is = o .older-bits .ensures;
-      store-is = s .older-store .ensures;
+      known-is = n .older-number .ensures;
+      places-is = p .older-places .ensures;
+      bits-is = o .older-number2 .ensures;
+      store-is = z .older-store .ensures;
       brings = x .heard .ensures;
       judges = v .judge .ensures;
       tells = t .told .ensures;
       settings-after = refl;
-      place-after = p .standing .ensures;
-      near-after = n .near-after .ensures;
+      place-after = s .standing .ensures;
+      over-is = y .ending .ensures;
+      falls = w .fall .ensures;
+      keeps = h .keep .ensures;
       run-after = c .before .run-after .ensures;
       bits-after = c .bits-after .ensures;
-      store-after = w .store-after .ensures;
+      store-after = d .store-after .ensures;
     })
 
 pub reply-spec : {M : Type 1} → statement M
@@ -173,17 +261,23 @@ reply-spec =
     ticking-requires
     broken-off-requires
     older-run-requires
-    older-near-requires
-    older-bits-requires
+    older-places-requires
+    older-number-requires
+    older-number-requires-2
     older-store-requires
     heard-requires
+    slice-aggregate-judge
     judge-requires
     slice-aggregate-told
     told-requires
     slice-aggregate-store-after
     store-after-requires
+    ending-requires
+    slice-aggregate-fall
+    fall-requires
+    slice-aggregate-keep
+    keep-requires
     standing-requires
-    near-after-requires
     run-after-requires
     bits-after-requires
     same-length

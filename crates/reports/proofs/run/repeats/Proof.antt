@@ -3,8 +3,8 @@ use borrow.Author.Tests.{not-true, not-false}
 use native.Mathlib.Omega.{arith}
 use Rattle.reports.proofs.Counting.{eqb-before, eqb-none}
 use borrow.Author.Needs.{needs}
-use Rattle.reports.proofs.near.repeats.Statement.{statement}
-use Rattle.reports.proofs.near.repeats.Tie as tie
+use Rattle.reports.proofs.run.repeats.Statement.{statement}
+use Rattle.reports.proofs.run.repeats.Tie as tie
 
 same-requires : tie.Need-same-requires
 same-requires c κs = search needs

@@ -1,0 +1,117 @@
+-- Two headers with the same SCH/H but for the countdown are both fragmented, or neither is. Assumes nothing.
+use mathlib.Core.Path.{_≡_, refl, sym, _∙_, ap, subst}
+use mathlib.Core.Bool.{Bool, true, false, cond}
+use mathlib.Core.List.{List, [], _∷_}
+use Prim.Native.Nat.{ℕ, zero, suc, _+_, _-_, _*_, _^_, _≤_, _<_}
+use native.Mathlib.Omega.{arith}
+use lib.Dec.{eqb}
+use lib.ListN.{length, take, drop, length-drop}
+use lib.Seq.{length-take-le}
+use Rattle.bits.specs.Bits.{bitsOf, over, num}
+use Rattle.bits.proofs.Numbers.{num-lt, take-of-drop}
+use Rattle.bits.proofs.Bytes.{length-bitsOf}
+use Rattle.bits.proofs.Over.{length-over, over-take}
+use Rattle.blocks.specs.Header.{fragmentedIn}
+use Rattle.blocks.specs.Continuation.{readContinuation}
+use Rattle.store.proofs.Blocks.{halves-same}
+use Rattle.history.specs.Slots.{Header, Heard, nothing, fragmented, unfragmented, frag, end, header-in, is-fragmented}
+use Rattle.history.proofs.Verdicts.{absurd-bool}
+use Rattle.reports.specs.Lent.{Lent, rawOf, unfaulted, headerIn, headerHeard, blockHeard, heard}
+use Rattle.reports.specs.declared.unit.Settings.{Settings}
+use Rattle.reports.proofs.Readings.{well-read}
+
+-- The flag is bit 11.
+flag-first : (b : List Bool) → fragmentedIn (take 12 b) ≡ fragmentedIn b
+unfolding fragmentedIn
+flag-first b = ap num (take-of-drop 1 11 12 b (omega arith))
+
+flag-low : (b : List Bool) → length b ≡ 128 → fragmentedIn b ≤ 1
+unfolding fragmentedIn
+flag-low b l =
+    let x = take 1 (drop 11 b) in
+    let n : length x ≡ 1 = length-take-le 1 (drop 11 b) (omega (arith, length-drop 11 b)) in
+    let h : num x < 2 ^ 1 = subst (λ (k : ℕ). num x < 2 ^ k) n (num-lt x) in
+    omega arith
+
+-- The countdown's two bits come after it, in either header: to leave them out leaves it as it is.
+abbrev uncounted : List Bool → List Bool
+uncounted b = over (12 + 4 * fragmentedIn b) (false ∷ false ∷ []) b
+
+module _ (b : List Bool) (l : length b ≡ 128) where
+  uncounted-length : length (uncounted b) ≡ 128
+  uncounted-length =
+      length-over (12 + 4 * fragmentedIn b) (false ∷ false ∷ []) b (omega (arith, flag-low b l)) ∙ l
+
+  uncounted-flag : fragmentedIn (uncounted b) ≡ fragmentedIn b
+  uncounted-flag =
+      sym (flag-first (uncounted b))
+      ∙ ap fragmentedIn
+      (over-take 12 (12 + 4 * fragmentedIn b) (false ∷ false ∷ []) b (omega arith) (omega (arith, flag-low b l)))
+      ∙ flag-first b
+
+block-length : (h : List ℕ) → length h ≡ 16 → length (bitsOf h) ≡ 128
+block-length h l = omega (arith, length-bitsOf h)
+
+same-flag : (h k : List ℕ) → length h ≡ 16 → length k ≡ 16 → rawOf h ≡ rawOf k
+    → fragmentedIn (bitsOf h) ≡ fragmentedIn (bitsOf k)
+same-flag h k l n e =
+    let a = bitsOf h in
+    let b = bitsOf k in
+    let la = block-length h l in
+    let lb = block-length k n in
+    let u = halves-same (uncounted a) (uncounted b) (uncounted-length a la ∙ sym (uncounted-length b lb)) e in
+    sym (uncounted-flag a la) ∙ ap fragmentedIn u ∙ uncounted-flag b lb
+
+-- ---- So it is with two that were read.
+
+-- The SCH/H that a header was read from.
+record ReadFrom (x : Heard) : Type 0 where
+  block : List ℕ
+  long : length block ≡ 16
+  raw : header-in x .raw ≡ rawOf block
+  flag : is-fragmented x ≡ eqb (fragmentedIn (bitsOf block)) 1
+
+-- By the fault that it reads with, and the flag.
+from-header : (b : List ℕ) (h : Header) (more f fault : ℕ) (flag : Bool) → h .raw ≡ rawOf b
+    → (fault ≡ 0 → (length b ≡ 16) × (flag ≡ eqb (fragmentedIn (bitsOf b)) 1))
+    → let x = unfaulted fault (cond flag (fragmented h more f) (unfragmented h f)) in
+    header-in x .for-us ≡ true → ReadFrom x
+from-header b h more f (suc n) flag e w m = absurd-bool m
+from-header b h more f zero true e w m = record { block = b; long = w refl .0; raw = e; flag = w refl .1 }
+from-header b h more f zero false e w m = record { block = b; long = w refl .0; raw = e; flag = w refl .1 }
+
+-- By its kind: only one of kind 2 brings a header.
+from-block : (n : ℕ) (last : Bool) (m : List Bool)
+    → header-in (unfaulted n (cond last (end m) (frag m))) .for-us ≡ true → ⊥
+from-block zero true m e = absurd-bool e
+from-block zero false m e = absurd-bool e
+from-block (suc n) last m e = absurd-bool e
+
+read-from : (s : Settings) (l : Lent) → header-in (heard s l) .for-us ≡ true → ReadFrom (heard s l)
+unfolding heard
+read-from s l = go (eqb (l .kind) 2) (eqb (l .kind) 3)
+  where
+    go : (two three : Bool)
+        → let x = cond two (headerHeard s (drop 8 (l .blocks)) (headerIn l))
+        (cond three (blockHeard (l .blocks) (readContinuation (l .blocks))) nothing) in
+        header-in x .for-us ≡ true → ReadFrom x
+    go true three m =
+        let b = drop 8 (l .blocks) in
+        let r = headerIn l in
+        from-header b _ (r .count - 1) (r .countdown) (r .fault) (eqb (r .fragmented) 1) refl
+        (λ z. let w = well-read (l .frame) (l .slot) (take 8 (l .blocks)) b z in
+        (w .long, ap (λ (n : ℕ). eqb n 1) (w .flag))) m
+    go false true m =
+        let r = readContinuation (l .blocks) in absurd (from-block (r .fault) (eqb (r .last) 1) _ m)
+    go false false m = absurd-bool m
+
+pub same-alike : (s : Settings) (l m : Lent) → header-in (heard s l) .for-us ≡ true
+    → header-in (heard s m) .for-us ≡ true → header-in (heard s l) .raw ≡ header-in (heard s m) .raw
+    → is-fragmented (heard s l) ≡ is-fragmented (heard s m)
+same-alike s l m a b e =
+    let x = read-from s l a in
+    let y = read-from s m b in
+    x .flag
+    ∙ ap (λ (n : ℕ). eqb n 1)
+    (same-flag (x .block) (y .block) (x .long) (y .long) (sym (x .raw) ∙ e ∙ y .raw))
+    ∙ sym (y .flag)
