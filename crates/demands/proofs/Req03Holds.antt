@@ -20,10 +20,10 @@ use Rattle.receiver.specs.declared.Receiver.{Receiver}
 use Rattle.receiver.proofs.AcceptedLaws.{listed}
 use Rattle.demands.specs.Calls.{Calls, refused, accepted, HearCall, history, current, answer}
 use Rattle.demands.specs.Demand3.{Taken, HandsNothing}
-use Rattle.demands.specs.Req03.{Brings, Fits, Req03}
+use Rattle.demands.specs.Req03.{HeaderHere, Fits, Req03}
 use Rattle.demands.proofs.Demand3Holds.{leads, demand3}
 
-module _ (c : HearCall) {h : Header} {f : ℕ} (b : Brings c h f) where
+module _ (c : HearCall) {h : Header} {f : ℕ} (b : HeaderHere c h f) where
   -- What it fits is not fragmented, as it is not.
   alike : (e : Earlier) (x : Fits c h f e) → NotFragmented (x .is-earlier .report .heard)
   alike e x =

@@ -16,7 +16,7 @@ use Rattle.demands.specs.Calls.{HearCall, history, current, answer}
 use Rattle.demands.specs.Demand3.{Taken, HandsNothing}
 
 -- The report brings an unfragmented header h for this unit, with countdown f.
-pub record Brings (c : HearCall) (h : Header) (f : ℕ) : Type 0 where
+pub record HeaderHere (c : HearCall) (h : Header) (f : ℕ) : Type 0 where
   pub holds : current c .heard ≡ unfragmented h f
   pub for-us : h .for-us ≡ true
 
@@ -31,7 +31,7 @@ pub record Fits (c : HearCall) (h : Header) (f : ℕ) (e : Earlier) : Type 0 whe
 pub record Req03 : Type 0 where
   -- It is a copy, outcome 5, exactly if it fits any of them. `Copy` takes only those that are not fragmented: no other
   -- fits, since the fragmentation flag is among the bits that are compared.
-  pub any : (c : HearCall) → Taken c → {h : Header} {f : ℕ} → Brings c h f
+  pub any : (c : HearCall) → Taken c → {h : Header} {f : ℕ} → HeaderHere c h f
       → (answer c .outcome ≡ 5) ↔ ((e : Earlier) × Fits c h f e)
   -- A message whose header was heard is not handed over again by a repeat, whatever came between, as long as no break
   -- did.
@@ -39,7 +39,7 @@ pub record Req03 : Type 0 where
       → history c ≡ (before ▸ record { place = p; heard = unfragmented h f }) ⧺ since → h .for-us ≡ true
       → Repeated h f p since (current c) → (answer c .outcome ≡ 5) × HandsNothing c
   -- And none is lost: of a copy, an earlier report handed over the original, with no break since.
-  pub original : (c : HearCall) → Taken c → answer c .outcome ≡ 5 → {h : Header} {f : ℕ} → Brings c h f
+  pub original : (c : HearCall) → Taken c → answer c .outcome ≡ 5 → {h : Header} {f : ℕ} → HeaderHere c h f
       → Original (history c) (current c) h f
   -- A receiver keeps seven headers at most, which stand first, and zeros after them; six would not do.
   pub seven : (c : HearCall) → Listed (c .reply .receiver .near)

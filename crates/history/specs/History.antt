@@ -117,8 +117,9 @@ pub record IsEarlier (hs : History) (e : Earlier) : Type 0 where
   pub brings : Brings (report .heard) (e .header) (e .countdown)
   pub turns : InTurn (report .place) (e .since)
 
--- An unfragmented header h with countdown f at this report is a copy of any earlier one with the same SCH/H but for the
--- countdown: that is unfragmented too.
+-- An unfragmented header h with countdown f at this report is a copy: any earlier one fits it, with the same SCH/H but
+-- for the countdown, and a countdown that is the new one plus the frames gone by. That one is not fragmented either,
+-- which leaves none out (Req03.antt of `demands`).
 pub record Copy (hs : History) (r : Report) (h : Header) (f : ℕ) : Type 0 where
   pub earlier : Earlier
   pub is-earlier : IsEarlier hs earlier
