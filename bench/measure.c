@@ -44,13 +44,15 @@ enum { NOT_BOOKED, BOOKED, AGAIN };
 #define PAINT 0xa5
 #define PAINTED 16384
 
-/* What a report is to come to, and the message that it is to hand over. */
+/* What a report is to come to, the message that it is to hand over, and the bits of one that is
+   lost: all are from OTHER. */
 struct expected {
 	uint8_t outcome;
 	uint8_t dropped;
 	uint8_t fault;
 	unsigned bits;
 	const uint8_t *message;
+	unsigned lost;
 };
 
 /* A log of whole multiframes, so that a pass goes on where the one before it ended. */
@@ -189,16 +191,32 @@ static void bring(unsigned i, unsigned kind, const uint8_t *bytes, unsigned outc
 
 static void hand_over(unsigned i, unsigned outcome, unsigned n, const uint8_t *message)
 {
-	struct expected want = {outcome, 0, 0, n, message};
+	struct expected want = {outcome, 0, 0, n, message, 0};
 
 	slots.wants[i] = want;
 }
 
 static void nothing_of(unsigned i, unsigned fault)
 {
-	struct expected want = {NOTHING, 0, fault, 0, NULL};
+	struct expected want = {NOTHING, 0, fault, 0, NULL, 0};
 
 	slots.wants[i] = want;
+}
+
+/* A message is lost in place i, with so many bits joined. */
+static void lose(unsigned i, unsigned bits)
+{
+	slots.wants[i].dropped = 1;
+	slots.wants[i].lost = bits;
+}
+
+/* The block that is due in place i is not heard. */
+static void miss(unsigned i, unsigned bits)
+{
+	slots.reports[i].kind = SILENCE;
+	slots.reports[i].length = 0;
+	nothing_of(i, 0);
+	lose(i, bits);
 }
 
 /* Changes byte `at` of what is heard in place i: nothing comes of it then but a fault. */
@@ -275,6 +293,24 @@ static void make_run(void)
 {
 	silence(1);
 	send(0, 1, INDIVIDUAL, LARGEST, messages[0]);
+}
+
+/* Runs that do not come to their end: the header of each, in slot 3, follows the first block of the
+   one before it. Of the last one no block is heard. */
+static void make_lost(void)
+{
+	uint8_t out[BLOCKS];
+	unsigned last = 2 * (FRAMES - 3) + 1; /* slot 3 of frame 16 */
+
+	silence(1);
+	for (unsigned i = 1; i <= last; i += 2) {
+		blocks_at(out, i, 0, INDIVIDUAL, INSIDE + 2 * FULL, messages[i % 7]);
+		bring(i, HEADER, out, OPENED);
+		if (i > 1)
+			lose(i, INSIDE + FULL);
+		bring(i + 1, BLOCK, out + SCH_S + SCH_H, KEPT);
+	}
+	miss(last + 1, INSIDE);
 }
 
 static void make_short(void)
@@ -381,11 +417,9 @@ static void make_mixed(void)
 	/* Eight blocks to the group, of which the fifth is not heard: the message is dropped. */
 	send(third, 3, GROUP, INSIDE + 8 * FULL - 50, messages[5]);
 	lost = 2 * (third + 8);
-	slots.reports[lost].kind = SILENCE;
-	slots.reports[lost].length = 0;
-	for (unsigned k = 0; k < 4; k++)
+	miss(lost, INSIDE + 4 * FULL);
+	for (unsigned k = 1; k < 4; k++)
 		nothing_of(lost + 2 * k, 0);
-	slots.wants[lost].dropped = 1;
 
 	/* Four blocks past frame 18, a short message, and one whose slot 1 names another frame. */
 	send(third + 15, 0, INDIVIDUAL, INSIDE + 3 * FULL + 7, messages[6]);
@@ -805,6 +839,10 @@ static unsigned check_hear(void)
 			if (answer.outcome != want->outcome || answer.dropped != want->dropped ||
 			    answer.fault != want->fault || answer.bits != want->bits)
 				fail("a report came to something else than expected");
+			if (answer.lost.source != (want->lost ? OTHER : 0) ||
+			    answer.lost.message_type != (want->lost ? 23 : 0) ||
+			    answer.lost.bits != want->lost)
+				fail("another loss than expected was told of");
 			if (!handed_over(message, want))
 				fail("another message than expected was handed over");
 			add(answer.outcome);
@@ -812,6 +850,9 @@ static unsigned check_hear(void)
 			add(answer.fault);
 			add(answer.bits);
 			add_fields(&answer.fields);
+			add(answer.lost.source);
+			add(answer.lost.message_type);
+			add(answer.lost.bits);
 			add_bytes(slots.reports[i].blocks, slots.reports[i].length);
 			add_bytes(message, ROOM);
 		}
@@ -980,6 +1021,7 @@ static const struct measured {
 	{"hear-mixed", make_mixed, count_hear, check_hear},
 	{"hear-nothing", make_nothing, count_hear, check_hear},
 	{"hear-run", make_run, count_hear, check_hear},
+	{"hear-lost", make_lost, count_hear, check_hear},
 	{"hear-short", make_short, count_hear, check_hear},
 	{"hear-copies", make_copies, count_hear, check_hear},
 	{"hear-between", make_between, count_hear, check_hear},

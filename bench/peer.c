@@ -121,7 +121,7 @@ static void print_output(const uint8_t *out, size_t written, size_t length)
 		printf("%02x", out[i]);
 	while (i < length && out[i] == BEFORE)
 		i++;
-	printf(" %d\n", i == length);
+	printf(" %d", i == length);
 }
 
 static void print_fields(const Fields *f)
@@ -154,6 +154,8 @@ static void probe_report(Fresh *unit, struct input body)
 	       (unsigned)answer.bits);
 	print_fields(&answer.fields);
 	print_output(message, (answer.bits + 7) / 8, room);
+	printf(" %" PRIu32 " %d %u\n", answer.lost.source, answer.lost.message_type,
+	       (unsigned)answer.lost.bits);
 }
 
 static void probe_build(struct input body)
@@ -188,6 +190,7 @@ static void probe_build(struct input body)
 	BUILD(built, &sync, countdown, &f, n, body.at, body.left, out, room);
 	printf("build %d %d", built.fault, built.blocks);
 	print_output(out, built.fault ? 0 : SCH_S + SCH_H + built.blocks * SCH_F, room);
+	putchar('\n');
 }
 
 static void probe_header(struct input body, size_t s_length, size_t h_length)
@@ -285,6 +288,7 @@ static void probe_sdu(struct input body)
 	BUILD_TRANSPORT(sdu, carrier, fcs, &m, n, body.at, body.left, out, room);
 	printf("sdu %d %u", sdu.fault, (unsigned)sdu.bits);
 	print_output(out, (sdu.bits + 7) / 8, room);
+	putchar('\n');
 }
 
 static void probe_book(Bookings *bookings, struct input body)

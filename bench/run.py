@@ -29,6 +29,7 @@ CASES = [
     Case("hear-mixed", "report, mixed log", 1, 3, True),
     Case("hear-nothing", "report, nothing heard", 1, 6, False),
     Case("hear-run", "report, a run of 15 blocks", 1, 5, True),
+    Case("hear-lost", "report, runs that are lost", 1, 5, True),
     Case("hear-short", "report, short message handed over", 1, 5, True),
     Case("hear-copies", "report, copies", 1, 5, True),
     Case("hear-between", "report, copies with another message between", 1, 5, True),
@@ -102,10 +103,11 @@ HOW = {
     "logs": [
         "What the reports bring. A log is whole multiframes, slot 1 and slot 3 of each frame in turn, heard again and",
         "again by one receiver; of the refused reports none is accepted. The run is a header in both slots of two",
-        "frames and then 15 blocks. The copies are of one message at a time, its header in both slots of four frames;",
-        "with another message between, the headers of two senders come in turn, the one's in slot 1 and the other's in",
-        "slot 3 of four frames. The mixed log has short messages, runs and copies, two senders in turn, messages of",
-        "others, a block that is not heard, two damaged headers and a damaged block.",
+        "frames and then 15 blocks. Of the runs that are lost, each ends at the header of the next, after one block;",
+        "the last ends at a block that is not heard. The copies are of one message at a time, its header in both slots",
+        "of four frames; with another message between, the headers of two senders come in turn, the one's in slot 1",
+        "and the other's in slot 3 of four frames. The mixed log has short messages, runs and copies, two senders in",
+        "turn, messages of others, a block that is not heard, two damaged headers and a damaged block.",
     ],
     "sdus": [
         "What the reads and builds of SDS-TL bring. A transfer has 128 bits of user data, in a DM-SDS DATA; with storage it has a forward address of SSI and extension. It is",

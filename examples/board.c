@@ -1,10 +1,10 @@
 /*
  * A unit's slot handler over Pierstrand, in plain C99. examples/run builds and runs it.
  *
- * slot_handler and hand_over are the part to copy. The radio calls slot_handler once for every slot 1
- * and every slot 3, in their order, heard or not. A message that comes out goes to hand_over, which
- * books it if it is a transfer of SDS-TL. All else stands in for the radio: it lays messages out over
- * slots and reports these slots one by one.
+ * slot_handler, hand_over and tell_lost are the part to copy. The radio calls slot_handler once for every
+ * slot 1 and every slot 3, in their order, heard or not. A message that comes out goes to hand_over, which
+ * books it if it is a transfer of SDS-TL; one that is lost on the way goes to tell_lost. All else stands in
+ * for the radio: it lays messages out over slots and reports these slots one by one.
  *
  * A line that starts with six numbers is one of a slot log, with some words after it: frame, slot,
  * outcome, dropped, fault, bits (docs/READING-THE-LOG.md).
@@ -73,6 +73,15 @@ static void hand_over(struct pierstrand_answer answer)
 	}
 }
 
+/*
+ * A DM-SDS DATA or DM-SDS ACK that was coming in and is lost: here to ask for it again, or to tell who waits for it.
+ * A repeat of its header may still bring it.
+ */
+static void tell_lost(struct pierstrand_lost lost)
+{
+	printf("; a message from %u is lost: type %u, %zu bits were there", lost.source, lost.message_type, lost.bits);
+}
+
 static void slot_handler(uint8_t frame, uint8_t slot, uint8_t kind, const uint8_t *blocks, size_t length)
 {
 	struct pierstrand_answer answer =
@@ -96,7 +105,11 @@ static void slot_handler(uint8_t frame, uint8_t slot, uint8_t kind, const uint8_
 	default: /* PIERSTRAND_NOTHING */
 		printf("%s", answer.fault != 0 ? "a fault: nothing was taken" : "nothing for this unit");
 	}
-	printf("%s\n", answer.dropped != 0 ? "; the message that was coming in is lost" : "");
+	if (answer.lost.message_type != 0)
+		tell_lost(answer.lost);
+	else if (answer.dropped != 0) /* one of another type */
+		printf("; the message that was coming in is lost");
+	printf("\n");
 }
 
 /* What is on the air, by frame and slot. Kind 0: nothing. */
@@ -259,7 +272,7 @@ int main(void)
 	send_text("ok", 4, 0);
 	report(4, 1);
 
-	/* The second of its blocks, due in frame 7, is not heard. */
+	/* The second of its blocks, due in frame 7, is not heard: 17 bits and a block of 264 were there. */
 	send_text(answer, 5, 0);
 	air[7][1].kind = 0;
 	report(5, 4);

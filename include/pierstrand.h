@@ -177,6 +177,13 @@ struct pierstrand_due {
 	uint8_t frame; /* 1 to 17; 0 where it was refused */
 };
 
+/* A message of DM-SDS DATA or DM-SDS ACK that was coming in and is lost. All 0 where there is none. */
+struct pierstrand_lost {
+	uint32_t source;      /* the SSI of its source address, 0 where that is absent */
+	uint8_t message_type; /* 23 DM-SDS DATA, 24 DM-SDS ACK. This shows a loss: source and bits may be 0 of themselves */
+	size_t bits;          /* joined so far: those of the header and of the blocks kept */
+};
+
 /* What a report came to. */
 struct pierstrand_answer {
 	uint8_t outcome; /* enum pierstrand_outcome */
@@ -184,6 +191,7 @@ struct pierstrand_answer {
 	uint8_t fault;   /* enum pierstrand_fault: of the report, or of the block that it brought; then the outcome is 0 */
 	size_t bits;     /* of the message that is handed over, outcome 1 or 2; otherwise 0 */
 	struct pierstrand_fields fields; /* of its header; otherwise 0 */
+	struct pierstrand_lost lost; /* what ended here without being handed over, if it was of these two types */
 };
 
 /* The receiver. Not to be touched: see above. What is not there is 0. */
@@ -284,6 +292,10 @@ struct pierstrand_fresh pierstrand_fresh(uint32_t individual, uint32_t group, ui
  * slot 1 of the next frame, frame 1 after frame 18. The first report may be any. One that does not
  * follow the last accepted one is a break: it drops an open assembly, and nothing is a copy over it.
  * With no break between, a repeat of an unfragmented message is a copy whatever else came between.
+ *
+ * Where an open assembly ends without being handed over, however that comes, `dropped` is 1; and if it was
+ * of a DM-SDS DATA or a DM-SDS ACK, `lost` says from whom, of which type and with how many bits. A repeat of
+ * its own header loses nothing. What was told lost may still be joined later, from a repeat of its header.
  *
  *   frame    1 to 18
  *   slot     1 or 3: its number, not its code

@@ -17,6 +17,7 @@ import stories
 from stories import second
 
 HERE = os.path.dirname(os.path.abspath(__file__))
+BYTES = {"sdu": -2, "build": -2, "report": -5}  # where the bytes of a line stand
 
 
 def table(rows, line=1, heading="what was heard"):
@@ -66,10 +67,12 @@ def calls(log):
 
 
 def without_bytes(line):
-    """A line with `..` for its bytes, which stand before its last word."""
+    """A line with `..` for its bytes."""
     words = line.split()
-    shows = len(words) > 2 and words[0] in ("sdu", "build", "report") and words[-2] != "-"
-    return " ".join(words[:-2] + [".."] + words[-1:]) if shows else line
+    at = BYTES.get(words[0]) if words else None
+    if at and words[at] != "-":
+        words[at] = ".."
+    return " ".join(words)
 
 
 def calls_and_lines(name, log):

@@ -219,8 +219,9 @@ def june_goes_on():
         "Hire 4711: hammer kit 12, drill kit 3, tunnel 5", 93, 448,
         "the desk makes hire 4711 a transfer with reference 93: no fault, 448 bits. 40 of them say what it is, 376 are "
         "its 47 characters, and the last 32 are a check sequence over all the others")
-    nothing = " 0 0 0 0 0 0 0 0 0 0 0 - 1"
-    whole = "2 0 0 448 0 7 0 5001 901 23 8 147 %s 1" % hire[0].hex()
+    # The last three numbers are those of a message that is lost: here none is.
+    nothing = " 0 0 0 0 0 0 0 0 0 0 0 - 1 0 0 0"
+    whole = "2 0 0 448 0 7 0 5001 901 23 8 147 %s 1 0 0 0" % hire[0].hex()
 
     def sent(frame, words, repeated):
         """What goes out: the headers in slots 1 and 3 of a frame, a block in slot 1 of each of the next two."""
@@ -323,6 +324,9 @@ def missed_block():
     ---
 
     Each lost try shows one 1 under *dropped*, at the due slot where it went wrong; after that, the blocks that still come are nothing to the unit. Only a whole message is handed over.
+
+    The line does not say whose message is lost. The answer that the unit itself has does, and it is the same at lines
+    5, 13 and 21: source 7, message type 23, and 281 bits joined so far, 17 of the header and 264 of the first block.
     """
     log = Log(4, 1)
     hire = Message("Hire 4810: drill kit 2 and hammer kit 6 for quarry 3, two days, cage 2..")

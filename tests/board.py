@@ -10,8 +10,9 @@ The library is proved and built by `rt staticlib board`. The compiler is the kit
 - the sizes, alignments and fields that a C compiler gives the structs of the header (tests/layout.c prints them) are those that C's rule gives
   the #[repr(C)] structs of the crates;
 - the library reads and writes each field where the header has it, and each number of the header is the library's: tests/layout.c;
-- altered headers are not taken: with a field of another type, a field more or two fields in each other's place, for all fields of all structs;
-  with another number, for all numbers; with a parameter of another type, for all parameters.
+- altered headers are not taken: with a field of another type, a field more, a field less or two fields in each other's
+  place, for all fields of all structs; with another number, for all numbers; with a parameter of another type, for all
+  parameters.
 - the search for the last 1 is a function of the library that is called, from two places at least.
 Another C compiler for x86-64, where there is one, compiles both programs with its own headers, and they print the same. The header is read
 as C++ by the kit's clang, and by another compiler where there is one.
@@ -54,9 +55,10 @@ def ran(words, **more):
 
 SIZES = {"u8": 1, "u32": 4, "u64": 8, "usize": 8}
 IN_C = {"u8": "uint8_t", "u32": "uint32_t", "usize": "size_t", "&[u8]": "const uint8_t *, size_t", "&mut [u8]": "uint8_t *, size_t"}
-STRUCTS = ("Sync", "Address", "Fields", "Header", "Continuation", "Built", "Due", "Answer", "Receiver", "Fresh",
+STRUCTS = ("Sync", "Address", "Fields", "Header", "Continuation", "Built", "Due", "Lost", "Answer", "Receiver", "Fresh",
            "Message", "Transport", "Sdu", "Bookings", "Booked")  # in layout.c's order
-KEYWORDS = {"short": "short_form"}  # a field whose name C has for itself, and what it is called there
+# A field of a struct that the header has under another name, and that name.
+OTHER_NAMES = {("Message", "short"): "short_form", ("Lost", "message"): "message_type"}
 
 
 def sources():
@@ -91,7 +93,7 @@ def measured(found, of, name="", at=0):
     for field, inner in found[of]:
         size, align, _ = measured(found, inner, field)
         end = -(-end // align) * align
-        in_c_called = KEYWORDS.get(field, field)
+        in_c_called = OTHER_NAMES.get((of, field), field)
         fields += measured(found, inner, name + "." + in_c_called if name else in_c_called, at + end)[2]
         end, most = end + size, max(most, align)
     return -(-end // most) * most, most, fields
@@ -202,6 +204,7 @@ def altered(header):
             if field[2] in OTHER:
                 yield name + field[1] + ": another type", put(*field.span(2), OTHER[field[2]])
             yield name + field[1] + ": a field before it", put(field.start(), field.start(), "\tuint8_t spare;\n")
+            yield name + field[1] + ": not there", put(*field.span(), "")
             if after and not re.search(r"[{}]", header[field.end():after.start()]):
                 yield name + field[1] + ": the next one first", put(field.start(1), after.end(1), after[1] + header[field.end(1):after.start(1)] + field[1])
         for end in re.compile(r"^\t*\}.*;$", re.M).finditer(header, *struct.span()):

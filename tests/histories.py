@@ -1,6 +1,8 @@
 """Histories of slot reports, some for each rule of the receiver, with the line that each report has to be answered by.
 
 The blocks are built by the second program. The lines are not asked of it: a history says what each of its reports brings about.
+What a line tells of an assembly that was dropped is worked out here, from the header that the history said to open it
+and the blocks that it said to be kept since; many histories also say it themselves, and the two have to be the same.
 """
 import second
 
@@ -9,6 +11,10 @@ REPORT = 4
 NOTHING, HEADER, BLOCK = 1, 2, 3
 UNIT, GROUP, MNI = 1, 2, 3
 LARGEST = 2 ** 24 - 1
+DATA, ACK = 23, 24  # the messages that are told of when they are lost
+# The width of the elements of each message type (9.4, 9.5), none of their flags set.
+WIDTHS = {0: 18, 1: 7, 2: 12, 3: 2, 8: 21, 9: 21, 10: 8, 11: 0, 12: 21, 13: 21, 14: 0, 15: 13, 16: 3, 17: 1, 18: 10,
+          19: 6, 20: 0, 21: 0, 22: 8, DATA: 8, ACK: 1}
 
 
 def settings(individual=UNIT, group=GROUP, mni=MNI, more=b""):
@@ -50,6 +56,21 @@ class Message:
     def blocks(self):
         return self.built(1, 1, 0)[1:]
 
+    def head(self):
+        """How many of its bits a fragmented header takes: what is left of 124 beside h and the slot count."""
+        absent = (self.fields["to_type"] == 2) + (self.fields["from_type"] == 2)
+        h = 95 + self.fields["width"] - 24 * absent
+        return 124 - h - 4
+
+    def part(self, i):
+        """How many block i takes."""
+        return min(264, self.n - self.head() - 264 * i)
+
+    def lost(self, bits):
+        """What is told of it if its assembly is dropped with so many bits joined."""
+        source, kind = self.fields["source"], self.fields["message"]
+        return (source, kind, bits) if kind in (DATA, ACK) else (0, 0, 0)
+
     def numbers(self):
         names = ("to_type", "to", "from_type", "source", "mni", "message", "width", "elements")
         return [self.n] + [self.fields[name] for name in names]
@@ -60,31 +81,68 @@ class Message:
 
 
 class History:
-    """Reports, one slot after the other from a place on, with their lines; first the settings."""
+    """Reports, one slot after the other from a place on, with their lines; first the settings. `open` has the message
+    whose assembly is open and the bits joined so far, as the history has said."""
 
     def __init__(self, frame, slot=1, first=settings(), line="unit 0"):
-        self.place, self.calls = (frame, slot), [(first, line)]
+        self.place, self.calls = (frame, slot), []
+        self.fresh(first, line)
 
-    def tell(self, kind, blocks, outcome=0, dropped=0, fault=0, message=None, buffer=512, at=None):
-        """A report, at the next place or at another; a message that it hands over."""
+    def fresh(self, first=settings(), line="unit 0"):
+        """A fresh receiver from here on."""
+        self.calls.append((first, line))
+        self.open = None
+
+    def tell(self, kind, blocks, outcome=0, dropped=0, fault=0, message=None, buffer=512, at=None, opens=None,
+             part=None, lost=None):
+        """A report, at the next place or at another; a message that it hands over. `opens`: the message that outcome 3
+        opens, and the bits that its header has; `part`: the bits of the block that outcome 4 keeps; `lost`: an assembly
+        is dropped, and this is told of it."""
         frame, slot = at or self.place
+        dropped = int(dropped or lost is not None)
+        told = self.ended(outcome, dropped, lost)
+        self.begun(outcome, opens, part)
         numbers = [outcome, dropped, fault] + (message.numbers() if message else [0] * 9)
-        line = "report %s %s 1" % (" ".join(map(str, numbers)), message.hex() if message else "-")
+        line = "report %s %s 1 %d %d %d" % (" ".join(map(str, numbers)), message.hex() if message else "-", *told)
         self.calls.append((second.record(REPORT, bytes([frame, slot, kind]) + buffer.to_bytes(2, "little") + blocks), line))
         if fault not in (15, 16, 1, 17):
             self.place = after(frame, slot)
 
-    def nothing(self, times=1, dropped=0, at=None):
-        for _ in range(times):
-            self.tell(NOTHING, b"", dropped=dropped, at=at)
+    def ended(self, outcome, dropped, lost):
+        """What is told of the assembly that ends without being handed over. One that is handed over ends here too."""
+        told = (0, 0, 0)
+        if dropped:
+            assert self.open, "call %d: nothing is open" % len(self.calls)
+            message, bits = self.open
+            told = message.lost(bits)
+        assert lost in (None, told), "call %d: %s is told, not %s" % (len(self.calls), told, lost)
+        assert outcome not in (2, 4) or self.open, "call %d: a block, and nothing is open" % len(self.calls)
+        if dropped or outcome == 2:
+            self.open = None
+        return told
 
-    def header(self, message, f, outcome, dropped=0, at=None, buffer=512):
+    def begun(self, outcome, opens, part):
+        """What is open from here on. A header that opens while an assembly is open repeats that one's."""
+        assert (outcome == 3, outcome == 4) == (opens is not None, part is not None), "call %d" % len(self.calls)
+        if outcome == 3:
+            assert self.open in (None, opens), "call %d: another is open" % len(self.calls)
+            self.open = opens
+        if outcome == 4:
+            self.open = self.open[0], self.open[1] + part
+
+    def nothing(self, times=1, dropped=0, at=None, lost=None):
+        for _ in range(times):
+            self.tell(NOTHING, b"", dropped=dropped, at=at, lost=lost)
+
+    def header(self, message, f, outcome, dropped=0, at=None, buffer=512, lost=None):
         """The message's header with countdown f."""
         frame, slot = at or self.place
-        self.tell(HEADER, message.built(frame, slot, f)[0], outcome, dropped, message=message if outcome == 1 else None, at=at, buffer=buffer)
+        self.tell(HEADER, message.built(frame, slot, f)[0], outcome, dropped, message=message if outcome == 1 else None,
+                  at=at, buffer=buffer, opens=(message, message.head()) if outcome == 3 else None, lost=lost)
 
-    def block(self, message, i, outcome, dropped=0, at=None, buffer=512):
-        self.tell(BLOCK, message.blocks()[i], outcome, dropped, message=message if outcome == 2 else None, at=at, buffer=buffer)
+    def block(self, message, i, outcome, dropped=0, at=None, buffer=512, lost=None):
+        self.tell(BLOCK, message.blocks()[i], outcome, dropped, message=message if outcome == 2 else None, at=at,
+                  buffer=buffer, part=message.part(i) if outcome == 4 else None, lost=lost)
 
     def upto(self, frame, slot=1):
         while self.place != (frame, slot):
@@ -178,7 +236,7 @@ def kinds_of_block():
     # a FRAG and an END that are all fill: what the header brought is the message
     h = History(9)
     h.run(TWO, 0, upto=0)
-    h.tell(BLOCK, bytes([0x58]) + bytes(33), 4)
+    h.tell(BLOCK, bytes([0x58]) + bytes(33), 4, part=0)
     h.nothing()
     h.tell(BLOCK, bytes([0x78]) + bytes(33), 2, message=Message(17))
     yield h
@@ -514,13 +572,235 @@ def units():
     h = History(5)
     h.run(TWO, 0, upto=1)
     h.header(SHORT, 1, 1)
-    h.calls.append((settings(), "unit 0"))
+    h.fresh()
     h.block(TWO, 1, 0)
     h.header(SHORT, 1, 1)
-    h.calls.append((settings(UNIT, GROUP, 2 ** 24), "unit 13"))
+    h.fresh(settings(UNIT, GROUP, 2 ** 24), "unit 13")
     h.nothing(at=(2, 1))
-    h.calls.append((settings(), "unit 0"))
+    h.fresh()
     h.nothing()
+    yield h
+
+
+def of_type(kind, n=None, **other):
+    """A message of a type and of three blocks, or of n bits."""
+    message = Message(0, message=kind, width=WIDTHS[kind], elements=0, **other)
+    return Message(message.head() + 2 * 264 + 30 if n is None else n, **message.fields)
+
+
+def open_with(message, kept):
+    """An assembly is open, from a header in frame 4, with so many blocks kept; the next slot is the one before the due
+    one."""
+    h = History(4)
+    h.header(message, 0, 3)
+    for i in range(kept):
+        h.nothing()
+        h.block(message, i, 4)
+    return h
+
+
+def due_with(message, kept):
+    """The same, and the next slot is the due one."""
+    h = open_with(message, kept)
+    h.nothing()
+    return h
+
+
+def each_way(message, kept, lost):
+    """A message of three blocks, so many of them kept, dropped in each way that there is; what is told of it."""
+    # nothing heard; a block and a header with a fault
+    h = due_with(message, kept)
+    h.nothing(lost=lost)
+    h.nothing(2)
+    yield h
+    good = message.blocks()[kept]
+    no_one = bytes([0x50 + 0x20 * (kept == 2)]) + bytes(33)
+    for fault, data in ((2, put(good, 268, 1, 1)), (12, put(good, 0, 2, 3)), (11, no_one)):
+        h = due_with(message, kept)
+        h.tell(BLOCK, data, fault=fault, lost=lost)
+        yield h
+    h = due_with(message, kept)
+    h.tell(HEADER, put(message.built(*h.place, 0)[0], 0, 4, 9), fault=3, lost=lost)
+    h.block(message, kept, 0)
+    yield h
+    # END before the last due slot, FRAG in it
+    h = due_with(message, kept)
+    h.block(message, 2 if kept < 2 else 1, 0, lost=lost)
+    yield h
+    # a fragmented header, for another unit or for this one, in the due slot and before it; the new one is lost as well
+    new = Message(300, source=LARGEST, message=ACK, width=1, elements=1)
+    for begun in (open_with, due_with):
+        h = begun(message, kept)
+        h.header(Message(300, **OTHER), 0, 0, lost=lost)
+        h.nothing(3)
+        yield h
+        h = begun(message, kept)
+        h.header(new, 0, 3, lost=lost)
+        h.upto(h.place[0] + (h.place[1] == 3))
+        h.block(new, 1, 0, lost=(LARGEST, 24, 24))
+        yield h
+    # the message's own header once more, too late for a repeat
+    h = due_with(message, kept)
+    h.header(message, 0, 3, lost=lost)
+    h.nothing()
+    h.block(message, 0, 4)
+    yield h
+    # an unfragmented header in the due slot: for this unit, for another one, a copy
+    for short, outcome in ((SHORT, 1), (Message(15, **OTHER), 0)):
+        h = due_with(message, kept)
+        h.header(short, 0, outcome, lost=lost)
+        yield h
+    h = open_with(message, kept)
+    h.header(SHORT, 1, 1)
+    h.header(SHORT, 0, 5, lost=lost)
+    yield h
+    # breaks: a report twice, back, on and far off; with the due block, with headers
+    frame = 4 + kept
+    for at in ((frame, 1), (3, 3), (frame + 1, 1), (18, 3)):
+        h = open_with(message, kept)
+        h.nothing(at=at, lost=lost)
+        h.nothing(2)
+        yield h
+    h = open_with(message, kept)
+    h.block(message, kept, 0, at=(frame + 1, 1), lost=lost)
+    yield h
+    for other, outcome in ((message, 3), (new, 3), (SHORT, 1), (Message(300, **OTHER), 0), (Message(15, **OTHER), 0)):
+        h = open_with(message, kept)
+        h.header(other, 2, outcome, at=(9, 1), lost=lost)
+        if outcome == 3:
+            h.header(other, 2, 3)
+            h.header(other, 2, 3, lost=other.lost(other.head()))  # the countdown does not fit
+        yield h
+
+
+def lost_ones():
+    """Each way of being dropped, for a DM-SDS DATA, a DM-SDS ACK and a DM-SDS UDATA; every type; sources; lengths."""
+    for kind, head in ((DATA, 17), (ACK, 24)):
+        for kept in range(3):
+            yield from each_way(of_type(kind), kept, (9, kind, head + 264 * kept))
+    for kept in (0, 2):
+        yield from each_way(of_type(22), kept, (0, 0, 0))
+    # every message type
+    for kind in WIDTHS:
+        h = due_with(of_type(kind), 1)
+        h.nothing(lost={DATA: (9, 23, 281), ACK: (9, 24, 288)}.get(kind, (0, 0, 0)))
+        yield h
+    # the source: absent, which leaves 24 bits more to the message; at the ends of its range; not a true address
+    sources = [(dict(from_type=2, source=0), 0, 24), (dict(source=LARGEST), LARGEST, 0), (dict(source=0), 0, 0),
+               (dict(source=1), 1, 0), (dict(from_type=1, source=2 ** 23), 2 ** 23, 0)]
+    for kind, head in ((DATA, 17), (ACK, 24)):
+        for other, source, more in sources:
+            for kept in (0, 2):
+                h = due_with(of_type(kind, **other), kept)
+                h.nothing(lost=(source, kind, head + more + 264 * kept))
+                yield h
+    # of one block, before and after frame 18
+    for kind, head in ((DATA, 17), (ACK, 24)):
+        for x in (16, 17):
+            h = History(x)
+            one = of_type(kind, head + 9)
+            h.run(one, 0, upto=0)
+            h.upto(due_frame(x, 0, 0))
+            h.block(of_type(kind), 0, 0, lost=(9, kind, head))
+            h.block(one, 0, 0)
+            yield h
+    # the longest: no source, fourteen blocks kept, and then a FRAG, or nothing
+    longest = of_type(ACK, 48 + 15 * 264, from_type=2, source=0)
+    for data in (longest.blocks()[0], b""):
+        h = History(17, 3)
+        h.header(longest, 0, 3)
+        for i in range(14):
+            h.upto(due_frame(17, 0, i))
+            h.block(longest, i, 4)
+        h.nothing()
+        h.tell(BLOCK if data else NOTHING, data, lost=(0, 24, 48 + 14 * 264))
+        yield h
+
+
+# Messages with the room in their fragmented headers: its first bit, counted over SCH/S and SCH/H, and its width.
+FILLED = [(of_type(DATA), 171, 17), (of_type(ACK), 164, 24), (of_type(DATA, from_type=2, source=0), 147, 41)]
+
+
+def lost_bits():
+    """Fill leaves fewer bits, or none, in the header and in the blocks kept. The block that drops is not joined."""
+    for message, first, width in FILLED:
+        source, kind = message.fields["source"], message.fields["message"]
+        for head, room in ((0, 1 << width - 1), (5, 0b101101 << width - 6), (width - 1, 1)):
+            data = put(put(message.built(4, 1, 0)[0], 74, 1, 1), first, width, room)
+            for parts in ((), (0,), (264, 0), (5,), (263, 7)):
+                h = History(4)
+                h.tell(HEADER, data, 3, opens=(message, head))
+                h.nothing()
+                for part in parts:
+                    frag = put(bytes([0x50]) + bytes(33), 4 + part, 1, 1) if part < 264 else bytes([0x40]) + bytes(33)
+                    h.tell(BLOCK, frag, 4, part=part)
+                    h.nothing()
+                # a FRAG in the last due slot, or an END before it
+                h.block(message, 0 if len(parts) == 2 else 2, 0, lost=(source, kind, head + sum(parts)))
+                yield h
+
+
+def lost_and_not():
+    """Repeats lose nothing, nor does what is handed over or refused; one run after another; one joined later."""
+    for kind, told in ((DATA, (9, 23, 17)), (ACK, (9, 24, 24)), (22, (0, 0, 0))):
+        # repeats, one of them after another header; a break at the last; then its own due slot
+        message = of_type(kind)
+        h = History(17)
+        for countdown in (3, 3, 2):
+            h.header(message, countdown, 3)
+        h.header(SHORT, 0, 1)
+        for countdown in (1, 1, 0):
+            h.header(message, countdown, 3)
+        h.header(message, 0, 3, at=(2, 1), lost=told)
+        h.header(message, 0, 3)
+        h.header(message, 0, 3, lost=told)
+        yield h
+        # handed over: nothing was lost, and a break then loses nothing
+        h = History(17)
+        h.run(message, 1)
+        h.nothing(at=(9, 3))
+        h.run(message, 0, upto=2)
+        h.nothing(at=(1, 1), lost=message.lost(message.head() + 528))
+        h.nothing(at=(1, 1))
+        yield h
+        # lost, and joined from a repeat of its header
+        h = History(5)
+        h.header(message, 1, 3)
+        h.header(Message(300, **OTHER), 0, 0, lost=told)
+        h.header(message, 0, 3)
+        h.nothing()
+        for i, outcome in enumerate((4, 4, 2)):
+            h.block(message, i, outcome)
+            h.nothing()
+        yield h
+        # refused reports between, and then the due block is not heard
+        h = due_with(message, 1)
+        h.tell(NOTHING, b"", fault=15, at=(19, 1))
+        h.tell(BLOCK, message.blocks()[1], fault=16, at=(6, 2))
+        h.tell(BLOCK, b"", fault=1)
+        h.tell(NOTHING, b"", fault=17, buffer=511)
+        h.nothing(lost=message.lost(message.head() + 264))
+        yield h
+        # outside due slots nothing is lost; new settings leave no assembly to lose
+        h = open_with(message, 1)
+        h.block(message, 2, 0)
+        h.block(message, 1, 4)
+        h.tell(BLOCK, bytes(34), fault=12)
+        h.fresh()
+        h.nothing(at=(2, 3))
+        yield h
+    # each header drops the one before it, and that one is told of
+    runs = [of_type(ACK, source=8), of_type(22, source=7), of_type(DATA, source=6), of_type(ACK, source=5)]
+    h = History(5)
+    h.header(runs[0], 3, 3)
+    h.header(runs[1], 3, 3, lost=(8, 24, 24))
+    h.header(runs[2], 0, 3, lost=(0, 0, 0))
+    h.nothing()
+    h.block(runs[2], 0, 4)
+    h.header(runs[3], 0, 3, at=(3, 3), lost=(6, 23, 281))  # a break
+    h.block(runs[3], 0, 4)
+    h.header(Message(300, **OTHER), 0, 0, lost=(5, 24, 288))
+    h.header(runs[0], 0, 3)
     yield h
 
 
@@ -537,7 +817,7 @@ def calls():
     """Each call with the line that answers it."""
     found = before_settings()
     for made in (whole_runs, missed, kinds_of_block, other_headers, repeats, copies, in_turn, breaks, damaged, refused,
-                 units):
+                 units, lost_ones, lost_bits, lost_and_not):
         for history in made():
             found += history.calls
     return found

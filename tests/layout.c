@@ -36,6 +36,7 @@ struct shape {
 #define FIELDS(type, in) \
 	ADDRESS(type, in destination.), ADDRESS(type, in source.), FIELD(type, in mni), FIELD(type, in message), \
 	FIELD(type, in width), FIELD(type, in elements)
+#define LOST(type, in) FIELD(type, in source), FIELD(type, in message_type), FIELD(type, in bits)
 #define RECEIVER(type, in) \
 	FIELD(type, in settings.individual), FIELD(type, in settings.group), FIELD(type, in settings.mni), \
 	FIELD(type, in place.frame), FIELD(type, in place.slot), \
@@ -60,7 +61,9 @@ SHAPE(header, FIELD(header, fault), SYNC(header, sync.), FIELD(header, fragmente
 SHAPE(continuation, FIELD(continuation, fault), FIELD(continuation, last), FIELD(continuation, first), FIELD(continuation, bits));
 SHAPE(built, FIELD(built, fault), FIELD(built, blocks));
 SHAPE(due, FIELD(due, fault), FIELD(due, frame));
-SHAPE(answer, FIELD(answer, outcome), FIELD(answer, dropped), FIELD(answer, fault), FIELD(answer, bits), FIELDS(answer, fields.));
+SHAPE(lost, LOST(lost, ));
+SHAPE(answer, FIELD(answer, outcome), FIELD(answer, dropped), FIELD(answer, fault), FIELD(answer, bits),
+      FIELDS(answer, fields.), LOST(answer, lost.));
 SHAPE(receiver, RECEIVER(receiver, ));
 SHAPE(fresh, FIELD(fresh, fault), RECEIVER(fresh, receiver.));
 SHAPE(message, MESSAGE(message, ));
@@ -77,7 +80,8 @@ static const struct pierstrand_header set_header = {1, {2, 3, 4, 5}, 6, 7, 8, {{
 static const struct pierstrand_continuation set_continuation = {1, 2, 3, 4};
 static const struct pierstrand_built set_built = {1, 2};
 static const struct pierstrand_due set_due = {1, 2};
-static const struct pierstrand_answer set_answer = {1, 2, 3, 4, {{5, 6}, {7, 8}, 9, 10, 11, 12}};
+static const struct pierstrand_lost set_lost = {1, 2, 3};
+static const struct pierstrand_answer set_answer = {1, 2, 3, 4, {{5, 6}, {7, 8}, 9, 10, 11, 12}, {13, 14, 15}};
 static const struct pierstrand_receiver set_receiver = {
 	{1, 2, 3}, {4, 5}, {6, {7}},
 	{{{{8, 9}, {10, 11}, 12, 13, 14, 15}, {16, 17}, 18, 19, 20, 21, 22, 23}, 24, {25}}};
@@ -142,7 +146,7 @@ static void print_shape(const struct shape *s, const void *set)
 	}
 }
 
-/* The numbers of all fields. Arrays are left out. */
+/* The numbers of all fields; those that HOLDS is not given, at the end, are 0. Arrays are left out. */
 static void holds(const struct shape *s, const void *bytes, const uint64_t *numbers)
 {
 	for (size_t i = 0; i < s->count; i++)
@@ -428,6 +432,7 @@ static const uint8_t *answer_of(uint8_t frame, uint8_t slot, uint8_t kind, const
 }
 
 #define HEARD(frame, slot, header) answer_of(frame, slot, PIERSTRAND_HEADER, header, HEADER_BYTES, PIERSTRAND_MESSAGE)
+#define BLOCK(frame, block) answer_of(frame, 1, PIERSTRAND_BLOCK, block, PIERSTRAND_SCH_F, PIERSTRAND_MESSAGE)
 #define SILENCE(frame, slot) answer_of(frame, slot, PIERSTRAND_SILENCE, text, 0, PIERSTRAND_MESSAGE)
 
 /* ---- The parts of a receiver. */
@@ -602,6 +607,75 @@ static void hears_seven(void)
 	RECEIVER_HOLDS(13, 1, NO_NEAR, NO_ASSEMBLY);
 }
 
+/*
+ * Messages of three blocks that do not come to their end: 22 DM-SDS UDATA, 23 DM-SDS DATA, 24 DM-SDS ACK. Their
+ * headers have room for 17, 17 and 24 bits of them, and for 24 more where the source is absent.
+ */
+#define LOST_BITS 600
+#define DATA_SOURCE 0x654321
+#define ACK_SOURCE 0xFEDCBA
+#define NO_LOSS 0, 0, 0
+
+static uint8_t sds[PIERSTRAND_BLOCKS];
+#define SDS_CONTINUATION(i) (sds + HEADER_BYTES + PIERSTRAND_SCH_F * (i))
+
+/* The blocks of one from this source; 0 is absent. */
+static const uint8_t *put_sds(uint8_t frame, uint8_t slot, uint8_t type, uint32_t source)
+{
+	struct pierstrand_sync s = long_sync;
+	struct pierstrand_fields f = {
+		.destination = {.kind = 0, .ssi = GROUP}, .source = {.kind = source != 0 ? 1 : 2, .ssi = source},
+		.mni = MNI, .message = type, .width = type == 24 ? 1 : 8, .elements = 1};
+	struct pierstrand_built b;
+
+	s.frame = frame;
+	s.slot = slot - 1;
+	b = pierstrand_build(s, 0, f, LOST_BITS, text, sizeof text, sds, sizeof sds);
+	HOLDS(built, &b, 0, 3);
+	return sds;
+}
+
+#define LOSES_NOTHING(it, outcome, fault) HOLDS(answer, it, outcome, 0, fault, 0, NO_FIELDS, NO_LOSS)
+#define LOSES(it, outcome, ...) HOLDS(answer, it, outcome, 1, 0, 0, NO_FIELDS, __VA_ARGS__)
+
+static void hears_lost(void)
+{
+	uint8_t both[HEADER_BYTES];
+
+	/* A DM-SDS DATA. A repeat of its header loses nothing, nor does what is refused. The second block is missed. */
+	LOSES_NOTHING(HEARD(3, 1, put_sds(3, 1, 23, DATA_SOURCE)), PIERSTRAND_OPENED, 0);
+	LOSES_NOTHING(HEARD(3, 3, put_sds(3, 3, 23, DATA_SOURCE)), PIERSTRAND_OPENED, 0);
+	LOSES_NOTHING(BLOCK(4, SDS_CONTINUATION(0)), PIERSTRAND_KEPT, 0);
+	LOSES_NOTHING(SILENCE(4, 3), PIERSTRAND_NOTHING, 0);
+	LOSES_NOTHING(SILENCE(19, 1), 0, PIERSTRAND_REPORT_FRAME);
+	LOSES_NOTHING(SILENCE(5, 2), 0, PIERSTRAND_REPORT_SLOT);
+	LOSES_NOTHING(answer_of(5, 1, PIERSTRAND_SILENCE, text, 1, PIERSTRAND_MESSAGE), 0, PIERSTRAND_LENGTH);
+	LOSES_NOTHING(answer_of(5, 1, PIERSTRAND_SILENCE, text, 0, PIERSTRAND_MESSAGE - 1), 0, PIERSTRAND_BUFFER);
+	store_has(17 + 264);
+	LOSES(SILENCE(5, 1), PIERSTRAND_NOTHING, DATA_SOURCE, 23, 17 + 264);
+	store_has(0);
+	LOSES_NOTHING(SILENCE(5, 3), PIERSTRAND_NOTHING, 0);
+
+	/* A DM-SDS ACK, and a break before its first block. */
+	LOSES_NOTHING(HEARD(6, 1, put_sds(6, 1, 24, ACK_SOURCE)), PIERSTRAND_OPENED, 0);
+	LOSES(SILENCE(11, 3), PIERSTRAND_NOTHING, ACK_SOURCE, 24, 24);
+
+	/* One without a source, and the short message where its second block is due: both are told of. */
+	LOSES_NOTHING(HEARD(11, 1, put_sds(11, 1, 24, 0)), PIERSTRAND_OPENED, 0);
+	LOSES_NOTHING(SILENCE(11, 3), PIERSTRAND_NOTHING, 0);
+	LOSES_NOTHING(BLOCK(12, SDS_CONTINUATION(0)), PIERSTRAND_KEPT, 0);
+	LOSES_NOTHING(SILENCE(12, 3), PIERSTRAND_NOTHING, 0);
+	put_header(both, 13, 1, 2, GROUP, SHORT_BITS);
+	HOLDS(answer, HEARD(13, 1, both), PIERSTRAND_UNFRAGMENTED, 1, 0, SHORT_BITS, SHORT_FIELDS, 0, 24, 48 + 264);
+
+	/* A DM-SDS DATA that ends at the header of a DM-SDS UDATA. Of that one nothing is told when it is lost. */
+	LOSES_NOTHING(HEARD(13, 3, put_sds(13, 3, 23, DATA_SOURCE)), PIERSTRAND_OPENED, 0);
+	LOSES(HEARD(14, 1, put_sds(14, 1, 22, ACK_SOURCE)), PIERSTRAND_OPENED, DATA_SOURCE, 23, 17);
+	LOSES_NOTHING(SILENCE(14, 3), PIERSTRAND_NOTHING, 0);
+	LOSES(SILENCE(15, 1), PIERSTRAND_NOTHING, NO_LOSS);
+	RECEIVER_HOLDS(15, 1, NEAR(1, SHORT_RAW, 0), NO_ASSEMBLY);
+}
+
 static void hears(void)
 {
 	uint8_t in_slot_1[sizeof short_header];
@@ -658,7 +732,7 @@ static void hears(void)
 		uint8_t frame = pierstrand_due_frame(13, 3, i).frame;
 
 		IS(frame, i == 0 ? 17 : i);
-		it = answer_of(frame, 1, PIERSTRAND_BLOCK, CONTINUATION(i), PIERSTRAND_SCH_F, PIERSTRAND_MESSAGE);
+		it = BLOCK(frame, CONTINUATION(i));
 		if (i == 8)
 			break;
 		HOLDS(answer, it, PIERSTRAND_KEPT, 0, 0, 0, NO_FIELDS);
@@ -683,10 +757,11 @@ static void hears(void)
 	RECEIVER_HOLDS(13, 3, NEAR(1, SHORT_RAW, 1), NO_ASSEMBLY);
 	HOLDS(answer, HEARD(13, 1, long_header), PIERSTRAND_OPENED, 0, 0, 0, NO_FIELDS);
 	RECEIVER_HOLDS(13, 1, NO_NEAR, LONG_OPEN(4, 0, 3));
-	HOLDS(answer, SILENCE(14, 1), PIERSTRAND_NOTHING, 1, 0, 0, NO_FIELDS);
+	HOLDS(answer, SILENCE(14, 1), PIERSTRAND_NOTHING, 1, 0, 0, NO_FIELDS, NO_LOSS);
 	RECEIVER_HOLDS(14, 1, NO_NEAR, NO_ASSEMBLY);
 	hears_two();
 	hears_seven();
+	hears_lost();
 }
 
 static void transports(void)
@@ -827,6 +902,7 @@ int main(void)
 	print_shape(&continuation, &set_continuation);
 	print_shape(&built, &set_built);
 	print_shape(&due, &set_due);
+	print_shape(&lost, &set_lost);
 	print_shape(&answer, &set_answer);
 	print_shape(&receiver, &set_receiver);
 	print_shape(&fresh, &set_fresh);

@@ -14,6 +14,8 @@ import second
 FILE = os.path.join(second.TOP, "crates", "demands", "specs", "RunTable.antt")
 UNIT, GROUP, MNI = 5001, 900, 901
 FIELDS = dict(system=13, usage=0, to_type=0, to=UNIT, from_type=0, source=7, mni=MNI, message=23, width=8, elements=0b1001_0_01_0)
+ACK = dict(message=24, width=1, elements=1, from_type=2, source=0)
+UDATA = dict(message=22)
 HEAD = """-- Slot reports with what they are to answer, made by tests/stored_run.py.
 use mathlib.Core.List.{List, [], _∷_}
 use Rattle.demands.specs.RunRows.{Row, row}
@@ -148,6 +150,16 @@ def reports():
     blocks = r.header("a run of one block opens", 250)
     r.nothing("slot 3")
     r.block("a block with a fault in the due slot: fault 12, dropped", bytes([blocks[0][0] ^ 0x80]) + blocks[0][1:])
+    r.at((11, 1))
+    r.header("a run of a DM-SDS ACK opens, with no source address", 400, **ACK)
+    r.at((11, 1))
+    r.nothing("the same slot again is a break: it is lost")
+    r.at((12, 1))
+    blocks = r.header("a run of a DM-SDS UDATA opens", 700, **UDATA)
+    r.nothing("slot 3")
+    r.block("kept", blocks[0])
+    r.nothing("slot 3")
+    r.nothing("dropped, but of such a message no loss is told")
     r.at((14, 1))
     for n in range(1, 8):
         r.header("one of seven messages, each in a slot of its own", n, countdown=3)
@@ -159,8 +171,8 @@ def answers(given):
     numbers = [second.record(0, b"".join(x.to_bytes(4, "little") for x in (UNIT, GROUP, MNI)))]
     numbers += [second.record(4, bytes([frame, slot, kind]) + (512).to_bytes(2, "little") + data) for frame, slot, kind, data, _ in given]
     for line in second.lines(second.run("probe", given=b"".join(numbers)))[1:]:
-        word, outcome, dropped, fault, bits, *_ = line.split()
-        yield int(outcome), int(dropped), int(fault), int(bits)
+        word, outcome, dropped, fault, bits, *_, source, message, joined = line.split()
+        yield tuple(map(int, (outcome, dropped, fault, bits, source, message, joined)))
 
 
 def main():

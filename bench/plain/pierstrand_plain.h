@@ -119,12 +119,20 @@ struct dm_report {
 	size_t length;
 };
 
+/* A DM-SDS DATA or DM-SDS ACK that was coming in and is lost. All 0 where there is none. */
+struct dm_lost {
+	uint32_t source; /* SSI, 0 where it is absent */
+	uint16_t bits;   /* joined so far */
+	uint8_t message_type;
+};
+
 struct dm_answer {
 	uint8_t outcome;
 	uint8_t dropped;
 	uint8_t fault;
 	uint16_t bits;
 	struct dm_fields fields;
+	struct dm_lost lost;
 };
 
 /* The most headers that can be repeated. A countdown is at most 3, so they are of the last four

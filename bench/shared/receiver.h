@@ -31,13 +31,18 @@ static void close_assembly(struct dm_receiver *r)
 	r->head_left = 0;
 }
 
-/* Ends an open assembly; 1 if there was one. */
-static uint8_t drop(struct dm_receiver *r)
+/* Ends an open assembly, if there is one, and tells of a DM-SDS DATA or DM-SDS ACK. */
+static void drop(struct dm_receiver *r, struct dm_answer *answer)
 {
 	if (!r->due)
-		return 0;
+		return;
+	answer->dropped = 1;
+	if (r->fields.message == DM_SDS_DATA || r->fields.message == DM_SDS_ACK) {
+		answer->lost.source = r->fields.source.ssi;
+		answer->lost.message_type = r->fields.message;
+		answer->lost.bits = r->bits;
+	}
 	close_assembly(r);
-	return 1;
 }
 
 static uint8_t report_fault(const struct dm_report *report, size_t room)
@@ -65,23 +70,21 @@ static void count_down(struct dm_receiver *r)
 			r->earlier[i] = r->earlier[--r->earlier_count];
 }
 
-/* Goes on to the report's place. At a break an open assembly is dropped (1), and nothing
-   heard before can be repeated. */
-static uint8_t go_on(struct dm_receiver *r, unsigned frame, unsigned slot)
+/* Goes on to the report's place. At a break an open assembly is dropped, and nothing heard
+   before can be repeated. */
+static void go_on(struct dm_receiver *r, unsigned frame, unsigned slot, struct dm_answer *answer)
 {
-	uint8_t dropped = 0;
 	unsigned next = r->slot == 1 ? r->frame : r->frame % FRAMES + 1u;
 
 	if (r->frame && (frame != next || slot == r->slot)) {
 		r->earlier_count = 0;
-		dropped = drop(r);
+		drop(r, answer);
 	} else if (slot == 1) {
 		count_down(r);
 		r->head_left -= r->head_left > 0;
 	}
 	r->frame = frame;
 	r->slot = slot;
-	return dropped;
 }
 
 static int for_unit(const struct dm_receiver *r, const struct dm_fields *f)
@@ -96,13 +99,13 @@ static void on_fragmented(struct dm_receiver *r, const struct dm_header *header,
 			  const uint8_t *sch_h, struct dm_answer *answer)
 {
 	uint8_t head[DM_SCH_H];
-	int repeat;
 
 	memcpy(head, sch_h, DM_SCH_H);
 	clear_countdown(head, 1);
-	repeat = r->head_left == header->countdown + 1 && !memcmp(head, r->head, DM_SCH_H);
-	if (drop(r) && !repeat)
-		answer->dropped = 1;
+	if (r->head_left == header->countdown + 1 && !memcmp(head, r->head, DM_SCH_H))
+		close_assembly(r);
+	else
+		drop(r, answer);
 	if (!for_unit(r, &header->fields))
 		return;
 
@@ -169,7 +172,7 @@ static void on_due_block(struct dm_receiver *r, const struct dm_block *block,
 			 const uint8_t *sch_f, uint8_t *message, struct dm_answer *answer)
 {
 	if (block->last != (r->to_come == 1)) {
-		answer->dropped = drop(r);
+		drop(r, answer);
 		return;
 	}
 	join(r->store, r->bits, sch_f, block->first, block->bits);
@@ -200,7 +203,7 @@ static void on_header(struct dm_receiver *r, const struct dm_report *report, int
 		return;
 	}
 	if (due)
-		answer->dropped = drop(r);
+		drop(r, answer);
 	if (!answer->fault)
 		on_unfragmented(r, &header, sch_h, message, answer);
 }
@@ -214,7 +217,7 @@ static void on_block(struct dm_receiver *r, const uint8_t *sch_f, int due, uint8
 	if (!due)
 		return;
 	if (answer->fault)
-		answer->dropped = drop(r);
+		drop(r, answer);
 	else
 		on_due_block(r, &block, sch_f, message, answer);
 }
@@ -228,7 +231,7 @@ void dm_hear(struct dm_receiver *r, const struct dm_report *report, uint8_t *mes
 	answer->fault = report_fault(report, room);
 	if (answer->fault)
 		return;
-	answer->dropped = go_on(r, report->frame, report->slot);
+	go_on(r, report->frame, report->slot, answer);
 	due = report->slot == 1 && report->frame == r->due;
 
 	switch (report->kind) {
@@ -240,7 +243,7 @@ void dm_hear(struct dm_receiver *r, const struct dm_report *report, uint8_t *mes
 		break;
 	default:
 		if (due)
-			answer->dropped = drop(r);
+			drop(r, answer);
 	}
 }
 

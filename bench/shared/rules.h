@@ -21,6 +21,10 @@
 #define ABSENT 2 /* address types (9.3.5, 9.3.27) */
 #define RESERVED 3
 
+#define DM_SDS_UDATA 22 /* the message types that carry short data (9.3.19) */
+#define DM_SDS_DATA 23
+#define DM_SDS_ACK 24
+
 #define NO_ENTRY 255
 #define WIDEST 33 /* DM-TX CEASED with both cases */
 

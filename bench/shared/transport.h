@@ -10,10 +10,6 @@
 
 #include <string.h>
 
-#define DM_SDS_UDATA 22 /* the header's message types that carry short data (9.3.19) */
-#define DM_SDS_DATA 23
-#define DM_SDS_ACK 24
-
 #define WITH_DATA 1      /* acknowledgement type (9.7.1) */
 #define CALLING_PARTY 1  /* additional address type (9.7.3) */
 #define USER_DEFINED_4 3 /* short data type identifiers (9.7.16) */

@@ -16,7 +16,7 @@ pub const SCH_F_BYTES: usize = 34;
 pub const HEADER_BYTES: usize = SCH_S_BYTES + SCH_H_BYTES;
 
 /// The width of an address and of the MNI.
-const ADDRESS: usize = 24;
+pub const ADDRESS: usize = 24;
 /// Address types (9.3.5, 9.3.27).
 pub const TRUE_ADDRESS: u64 = 0b00;
 pub const NO_ADDRESS: u64 = 0b10;

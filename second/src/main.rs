@@ -28,7 +28,7 @@ usage: second print               slot log on standard input, lines on standard 
        second builds              write the sheet of builds as call records
        second slots               write the sheet of reports as a slot log
        second transports          write the sheet of transport messages and bookings as call records
-       second stats FROM TO       run the made inputs of these seeds and count the answers";
+       second stats FROM TO       run the made inputs of these seeds and count the answers and the drops";
 
 fn main() -> ExitCode {
     let arguments: Vec<String> = std::env::args().skip(1).collect();

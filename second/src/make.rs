@@ -1,6 +1,8 @@
 //! Making inputs: random slot logs and call files from a seed, and fixed sheets of calls and reports.
 
+mod answers;
 mod calls;
+mod drops;
 mod log_sheet;
 mod logs;
 mod parts;

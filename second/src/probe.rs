@@ -112,7 +112,9 @@ fn report(receiver: &mut Receiver, body: &mut Body) -> Option<String> {
     ];
     let numbers = [&numbers[..], &message_fields(&answer.header)].concat();
     let output = written(&buffer, answer.bits.div_ceil(8));
-    Some(format!("report {} {output}", decimals(&numbers)))
+    let lost = &answer.lost;
+    let lost = decimals(&[lost.source, lost.message_type, lost.bits as u64]);
+    Some(format!("report {} {output} {lost}", decimals(&numbers)))
 }
 
 fn build_call(body: &mut Body) -> Option<String> {
@@ -373,22 +375,60 @@ mod tests {
     fn reports() {
         let settings = |mni| record(0, &[2, 0, 0, 0, 0, 0, 0, 0, 3, 0, 0, mni]);
         let report = |buffer: u8| record(4, &[&[5, 1, 2, 0, buffer], &HEADER[..]].concat());
-        let nothing = format!("report 0 0 0{} - 1\n", " 0".repeat(9));
+        let nothing = format!("report 0 0 0{} - 1 0 0 0\n", " 0".repeat(9));
         assert_eq!(probed(&[report(2)]), nothing, "all settings are 0");
         assert_eq!(
             probed(&[settings(1), report(2)]),
             format!("unit 13\n{nothing}")
         );
-        let handed = "report 1 0 0 5 0 2 0 1 3 11 0 0 f8 1\n";
+        let handed = "report 1 0 0 5 0 2 0 1 3 11 0 0 f8 1 0 0 0\n";
         assert_eq!(
             probed(&[settings(0), report(2)]),
             format!("unit 0\n{handed}")
         );
-        let short = format!("report 0 0 17{} - 1\n", " 0".repeat(9));
+        let short = format!("report 0 0 17{} - 1 0 0 0\n", " 0".repeat(9));
         assert_eq!(
             probed(&[settings(0), report(1)]),
             format!("unit 0\n{short}")
         );
+    }
+
+    /// The header of a DM-SDS DATA to 2, MNI 3, in frame 5, slot 1, with one block to come and a
+    /// message that begins with seventeen ones, put together by hand. Its source address is all
+    /// ones; or it is absent, and 24 zeros more of the message are there.
+    const TO_BE_LOST: [[u8; 24]; 2] = [
+        [
+            0xD0, 0x00, 0xA0, 0, 0, 0, 0, 0, 0x00, 0x11, 0, 0, 0, 0x23, 0xFF, 0xFF, 0xFC, 0, 0,
+            0x0E, 0xE0, 0x1F, 0xFF, 0xF0,
+        ],
+        [
+            0xD0, 0x00, 0xA0, 0, 0, 0, 0, 0, 0x00, 0x11, 0, 0, 0, 0x28, 0x00, 0x00, 0x0E, 0xE0,
+            0x1F, 0xFF, 0xF0, 0, 0, 0,
+        ],
+    ];
+
+    #[test]
+    fn lost_ones() {
+        let settings = record(0, &[2, 0, 0, 0, 0, 0, 0, 0, 3, 0, 0, 0]);
+        let nothing = |frame, slot| record(4, &[frame, slot, 1, 0, 2]);
+        let zeros = " 0".repeat(9);
+        for (header, told) in TO_BE_LOST.iter().zip(["16777215 23 17", "0 23 41"]) {
+            let report = record(4, &[&[5, 1, 2, 0, 2], &header[..]].concat());
+            let given = [
+                settings.clone(),
+                report,
+                nothing(5, 3),
+                nothing(19, 1),
+                nothing(6, 1),
+                nothing(6, 3),
+            ];
+            let lines = format!(
+                "unit 0\nreport 3 0 0{zeros} - 1 0 0 0\nreport 0 0 0{zeros} - 1 0 0 0\n\
+                 report 0 0 15{zeros} - 1 0 0 0\nreport 0 1 0{zeros} - 1 {told}\n\
+                 report 0 0 0{zeros} - 1 0 0 0\n"
+            );
+            assert_eq!(probed(&given), lines);
+        }
     }
 
     /// A message in a DM-SDS DATA, its elements all ones but for the FCS flag, n bits of it.

@@ -6,6 +6,7 @@ use crate::blocks::{read_continuation, read_header, Continuation, Fields, Header
 use crate::blocks::{HEADER_BYTES, SCH_F_BYTES, SCH_S_BYTES, TRUE_ADDRESS};
 use crate::faults::{refuse, Fault};
 use crate::layout::{due_frame, next_frame};
+use crate::transport::{DM_SDS_ACK, DM_SDS_DATA};
 
 /// The shortest message buffer.
 pub const BUFFER: usize = 512;
@@ -33,6 +34,17 @@ pub struct Answer {
     pub fault: Fault,
     pub bits: usize,
     pub header: Fields,
+    pub lost: Lost,
+}
+
+/// What is told of a DM-SDS DATA or DM-SDS ACK whose assembly was dropped (7.4.21): its source
+/// address, 0 where that is absent, its message type, and the bits joined so far. Three zeros
+/// where there is none; the type is never 0 where there is one.
+#[derive(Clone, Debug, Default, PartialEq, Eq)]
+pub struct Lost {
+    pub source: u64,
+    pub message_type: u64,
+    pub bits: usize,
 }
 
 const NOTHING: u8 = 0;
@@ -110,6 +122,7 @@ impl Receiver {
         let open = self.open_before(now);
         answer.outcome = self.outcome(now, open);
         answer.dropped = self.dropped(now, open);
+        answer.lost = self.lost(now, open).unwrap_or_default();
         if let Some((header, message)) = self.message(now, open, answer.outcome) {
             let bytes = pack(&message);
             buffer[..bytes.len()].copy_from_slice(&bytes);
@@ -211,6 +224,19 @@ impl Receiver {
     /// An open assembly ended without being handed over, and not by its own header's repeat.
     fn dropped(&self, now: usize, open: Option<usize>) -> bool {
         open.is_some_and(|opened| !self.stands(opened, now) && !self.repeats(opened, now))
+    }
+
+    /// What is told of the assembly dropped at report `now`, if it was of one of the two types.
+    /// What this report brings is not joined.
+    fn lost(&self, now: usize, open: Option<usize>) -> Option<Lost> {
+        let opened = open.filter(|_| self.dropped(now, open))?;
+        let fields = &self.history[opened].header()?.fields;
+        let told_of = [DM_SDS_DATA, DM_SDS_ACK].contains(&fields.message_type);
+        told_of.then(|| Lost {
+            source: fields.source,
+            message_type: fields.message_type,
+            bits: self.join(opened, now - 1).len(),
+        })
     }
 
     /// The message handed over, with its header.
@@ -328,7 +354,8 @@ fn is_due(header: &Header, i: usize, report: &Accepted) -> bool {
 #[cfg(test)]
 mod tests {
     use super::*;
-    use crate::blocks::build;
+    use crate::blocks::{build, continuation, sch_h};
+    use crate::messages;
 
     /// A receiver with individual 1, group 2 and MNI 3, told of one slot after another.
     struct Air {
@@ -363,6 +390,9 @@ mod tests {
                 1 => (frame, 3),
                 _ => (next_frame(frame), 1),
             };
+            if !answer.dropped {
+                assert_eq!(answer.lost, Lost::default());
+            }
             self.last = answer.clone();
             (
                 answer.outcome,
@@ -374,7 +404,11 @@ mod tests {
 
         /// A header for `dest` of n bits, sent here and now with this countdown.
         fn header(&mut self, dest: u64, n: u64, countdown: u64) -> (u8, u8, u8, usize) {
-            let blocks = sent(dest, n, countdown, self.frame, self.slot);
+            self.header_of(&data(dest), n, countdown)
+        }
+
+        fn header_of(&mut self, fields: &Fields, n: u64, countdown: u64) -> (u8, u8, u8, usize) {
+            let blocks = built(fields, n, countdown, self.frame, self.slot);
             self.tell(2, &blocks[..24])
         }
 
@@ -389,21 +423,32 @@ mod tests {
         }
     }
 
-    /// A DM-SDS DATA (h = 103: 21 bits unfragmented, 17 before blocks); all its bits are 1.
-    fn sent(dest: u64, n: u64, countdown: u64, frame: u8, slot: u8) -> Vec<u8> {
-        let fields = Fields {
+    /// A DM-SDS DATA from 9 (h = 103: 21 bits unfragmented, 17 before blocks).
+    fn data(dest: u64) -> Fields {
+        Fields {
             system: 13,
-            slot: u64::from(slot) - 1,
-            frame: frame.into(),
-            countdown,
             dest,
             source: 9,
             mni: 3,
             message_type: 23,
             width: 8,
             ..Fields::default()
+        }
+    }
+
+    /// A message of n bits, all of them 1.
+    fn built(fields: &Fields, n: u64, countdown: u64, frame: u8, slot: u8) -> Vec<u8> {
+        let fields = Fields {
+            slot: u64::from(slot) - 1,
+            frame: frame.into(),
+            countdown,
+            ..fields.clone()
         };
         build(&fields, n, &[0xFF; 512], 1_024).unwrap().bytes
+    }
+
+    fn sent(dest: u64, n: u64, countdown: u64, frame: u8, slot: u8) -> Vec<u8> {
+        built(&data(dest), n, countdown, frame, slot)
     }
 
     const OPENED_NEW: (u8, u8, u8, usize) = (3, 0, 0, 0);
@@ -703,6 +748,265 @@ mod tests {
         assert_eq!(refused(18, 1, 3, &[], 0), 1);
         assert_eq!(refused(18, 1, 1, &[], 511), 17);
         assert_eq!(air.block(300, 0), KEPT_ONE);
+    }
+
+    /// A message to 1 from 9 of a type, its elements all 0.
+    fn of_type(message_type: u64) -> Fields {
+        let width = messages::width(message_type, &[false; 40]).unwrap();
+        Fields {
+            message_type,
+            width: width as u64,
+            ..data(1)
+        }
+    }
+
+    /// An assembly of three blocks (n = 600), open with so many of them kept; the next report is in
+    /// slot 1 of frame 6, 7 or 8, the next due slot.
+    fn open_with(fields: &Fields, kept: usize) -> Air {
+        let mut air = Air::at(5, 3);
+        assert_eq!(air.header_of(fields, 600, 0), OPENED_NEW);
+        for i in 0..kept {
+            assert_eq!(air.block(600, i), KEPT_ONE);
+            air.nothing(1);
+        }
+        air
+    }
+
+    fn lost(source: u64, message_type: u64, bits: usize) -> Lost {
+        Lost {
+            source,
+            message_type,
+            bits,
+        }
+    }
+
+    type Way = fn(&mut Air, usize) -> (u8, u8, u8, usize);
+
+    /// What drops that assembly in a due slot: nothing; a block and a header with a fault; DMAC-END
+    /// before the last due slot, or DMAC-FRAG in it; headers, fragmented or not, for another unit
+    /// or this one.
+    const IN_A_DUE_SLOT: [Way; 8] = [
+        |air, _| air.tell(1, &[]),
+        |air, _| air.tell(3, &[0; 34]),
+        |air, _| air.tell(2, &[0; 24]),
+        |air, kept| air.block(600, if kept < 2 { 2 } else { 0 }),
+        |air, _| air.header(7, 300, 0),
+        |air, _| air.header(1, 300, 0),
+        |air, _| air.header(7, 5, 0),
+        |air, _| air.header(2, 5, 0),
+    ];
+
+    /// Breaks: a slot left out, with nothing, with the due block, with a header for this unit and
+    /// one for another; a report twice; one that goes back.
+    const BREAKS: [Way; 6] = [
+        |air, _| skipped(air).tell(1, &[]),
+        |air, kept| skipped(air).block(600, kept),
+        |air, _| skipped(air).header(1, 300, 0),
+        |air, _| skipped(air).header(7, 300, 0),
+        |air, kept| {
+            (air.frame, air.slot) = (5 + kept as u8, 3);
+            air.tell(1, &[])
+        },
+        |air, _| {
+            air.frame = 5;
+            air.header(1, 600, 0)
+        },
+    ];
+
+    fn skipped(air: &mut Air) -> &mut Air {
+        air.slot = 3;
+        air
+    }
+
+    /// 25 bits of an SCH/H are left for the elements and the message.
+    #[test]
+    fn each_type_in_each_way_of_being_dropped() {
+        let types = (0..32).filter(|&number| messages::elements(number).is_some());
+        for fields in types.map(of_type) {
+            for (number, way) in IN_A_DUE_SLOT.iter().chain(&BREAKS).enumerate() {
+                for kept in 0..=2 {
+                    let mut air = open_with(&fields, kept);
+                    assert_eq!(way(&mut air, kept).1, 1);
+                    let bits = 25 - fields.width as usize + 264 * kept;
+                    let expected = match fields.message_type {
+                        23 => lost(9, 23, bits),
+                        24 => lost(9, 24, bits),
+                        _ => lost(0, 0, 0),
+                    };
+                    let case = (fields.message_type, number, kept);
+                    assert_eq!(air.last.lost, expected, "{case:?}");
+                }
+            }
+        }
+    }
+
+    /// The same in the slot before a due slot, where only a fragmented header drops, or a break.
+    #[test]
+    fn lost_between_due_slots() {
+        for (kept, bits) in [(1, 281), (2, 545)] {
+            let between = |way: Way| {
+                let mut air = open_with(&data(1), kept - 1);
+                assert_eq!(air.block(600, kept - 1), KEPT_ONE);
+                (way(&mut air, kept).1, air.last.lost)
+            };
+            for (number, way) in IN_A_DUE_SLOT.into_iter().enumerate() {
+                let expected = match number {
+                    4 | 5 => (1, lost(9, 23, bits)),
+                    _ => (0, lost(0, 0, 0)),
+                };
+                assert_eq!(between(way), expected, "{number}");
+            }
+            let left_out: Way = |air, kept| {
+                (air.frame, air.slot) = (6 + kept as u8, 1);
+                air.block(600, kept)
+            };
+            assert_eq!(between(left_out), (1, lost(9, 23, bits)));
+        }
+    }
+
+    #[test]
+    fn an_assembly_of_one_block_lost() {
+        let mut air = Air::at(5, 3);
+        assert_eq!(air.header_of(&of_type(24), 100, 0), OPENED_NEW);
+        assert_eq!(air.block(600, 0), LOST, "FRAG in the last due slot");
+        assert_eq!(air.last.lost, lost(9, 24, 24));
+        let mut air = Air::at(17, 1);
+        assert_eq!(air.header(1, 100, 0), OPENED_NEW);
+        air.nothing(3);
+        assert_eq!(air.tell(1, &[]), LOST, "frame 1");
+        assert_eq!(air.last.lost, lost(9, 23, 17));
+    }
+
+    #[test]
+    fn the_longest_lost() {
+        let fields = Fields {
+            source_type: 2,
+            source: 0,
+            ..of_type(24)
+        };
+        let mut air = Air::at(17, 3);
+        assert_eq!(air.header_of(&fields, 48 + 15 * 264, 0), OPENED_NEW);
+        air.nothing(2);
+        for _ in 0..14 {
+            assert_eq!(air.block(600, 0), KEPT_ONE);
+            air.nothing(1);
+        }
+        assert_eq!(air.block(600, 0), LOST);
+        assert_eq!(air.last.lost, lost(0, 24, 48 + 14 * 264));
+    }
+
+    #[test]
+    fn sources_of_lost_ones() {
+        let largest = (1 << 24) - 1;
+        // The address that is absent leaves 24 bits more to the message.
+        for (source_type, source, head) in [(0, largest, 17), (1, 5, 17), (0, 0, 17), (2, 0, 41)] {
+            let fields = Fields {
+                source_type,
+                source,
+                ..data(1)
+            };
+            let mut air = open_with(&fields, 1);
+            assert_eq!(air.tell(1, &[]), LOST);
+            assert_eq!(air.last.lost, lost(source, 23, head + 264));
+        }
+    }
+
+    /// Fill leaves fewer bits, or none, in a header and in a block.
+    #[test]
+    fn bits_of_lost_ones() {
+        let open = |head: usize| {
+            let sch_h = sch_h(&data(1), &[true; 17][..head], 3).block();
+            let mut air = Air::at(5, 3);
+            let header = [&sent(1, 600, 0, 5, 3)[..8], &sch_h].concat();
+            assert_eq!(air.tell(2, &header), OPENED_NEW);
+            air
+        };
+        for (head, part) in [(0, 0), (0, 263), (5, 0), (16, 1)] {
+            let mut room = [false; 264];
+            room[..=part].fill(true);
+            let mut air = open(head);
+            assert_eq!(air.tell(3, &continuation(false, true, &room)), KEPT_ONE);
+            air.nothing(1);
+            assert_eq!(air.tell(3, &continuation(true, true, &room)), LOST);
+            assert_eq!(air.last.lost, lost(9, 23, head + part), "not the END's");
+            let mut air = open(head);
+            assert_eq!(air.tell(1, &[]), LOST);
+            assert_eq!(air.last.lost, lost(9, 23, head), "the type marks it");
+        }
+    }
+
+    #[test]
+    fn a_repeat_loses_nothing() {
+        let told = [lost(0, 0, 0), lost(9, 23, 17), lost(9, 24, 24)];
+        for (fields, told) in [22, 23, 24].map(of_type).iter().zip(told) {
+            let mut air = Air::at(17, 1);
+            for countdown in [2, 2, 1, 1, 0] {
+                assert_eq!(air.header_of(fields, 600, countdown), OPENED_NEW);
+            }
+            (air.frame, air.slot) = (1, 1);
+            assert_eq!(air.header_of(fields, 600, 0), (3, 1, 0, 0), "told twice");
+            assert_eq!(air.last.lost, told);
+            assert_eq!(air.header_of(fields, 600, 0), OPENED_NEW);
+            assert_eq!(air.header_of(fields, 600, 0), (3, 1, 0, 0), "a due slot");
+            assert_eq!(air.last.lost, told);
+        }
+    }
+
+    /// Each header drops the assembly of the one before it, which is the one that is told of.
+    #[test]
+    fn one_header_after_another() {
+        let mut air = Air::at(5, 1);
+        assert_eq!(air.header_of(&of_type(24), 600, 3), OPENED_NEW);
+        assert_eq!(air.header_of(&of_type(22), 600, 3), (3, 1, 0, 0));
+        assert_eq!(air.last.lost, lost(9, 24, 24));
+        assert_eq!(air.header(1, 600, 3), (3, 1, 0, 0));
+        assert_eq!(air.last.lost, lost(0, 0, 0));
+        (air.frame, air.slot) = (9, 3);
+        assert_eq!(air.header_of(&of_type(24), 600, 0), (3, 1, 0, 0), "a break");
+        assert_eq!(air.last.lost, lost(9, 23, 17));
+        assert_eq!(air.block(600, 0), KEPT_ONE);
+        assert_eq!(air.header(7, 600, 3), LOST);
+        assert_eq!(air.last.lost, lost(9, 24, 288));
+        assert_eq!(air.header(1, 600, 3), OPENED_NEW, "none was open");
+    }
+
+    /// From a repeat of its header, after it was told lost.
+    #[test]
+    fn lost_and_joined_later() {
+        let mut air = Air::at(5, 1);
+        assert_eq!(air.header(1, 300, 1), OPENED_NEW);
+        assert_eq!(air.header(7, 300, 0), LOST);
+        assert_eq!(air.last.lost, lost(9, 23, 17));
+        air.nothing(1);
+        assert_eq!(air.header(1, 300, 0), OPENED_NEW);
+        assert_eq!(air.block(300, 0), KEPT_ONE);
+        air.nothing(1);
+        assert_eq!(air.block(300, 1), (2, 0, 0, 300));
+        air.frame = 1;
+        assert_eq!(air.tell(1, &[]), UNTOUCHED, "a break with none open");
+    }
+
+    #[test]
+    fn a_refused_report_loses_nothing() {
+        let mut air = open_with(&data(1), 1);
+        for (frame, slot, kind, fault) in
+            [(19, 1, 1, 15), (7, 2, 1, 16), (7, 1, 3, 1), (9, 3, 9, 1)]
+        {
+            let report = Report {
+                frame,
+                slot,
+                kind,
+                blocks: &[],
+            };
+            let answer = air.receiver.report(&report, &mut air.buffer);
+            let expected = Answer {
+                fault,
+                ..Answer::default()
+            };
+            assert_eq!(answer, expected);
+        }
+        assert_eq!(air.tell(1, &[]), LOST);
+        assert_eq!(air.last.lost, lost(9, 23, 281));
     }
 
     #[test]

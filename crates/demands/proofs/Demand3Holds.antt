@@ -1,5 +1,6 @@
 -- Demand 3 holds. Assumes nothing.
-use mathlib.Core.Path.{_≡_, refl, ap, subst, _∙_}
+use mathlib.Core.Path.{_≡_, refl, sym, ap, subst, subst⁻¹, _∙_}
+use mathlib.Core.Logic.{_↔_, inl, inr}
 use mathlib.Core.Bool.{Bool, true, false, cond}
 use mathlib.Core.List.{List, []}
 use Prim.Native.Nat.{ℕ, zero, suc, _≤_}
@@ -8,10 +9,14 @@ use lib.ListN.{length}
 use Rattle.store.specs.Store.{handed}
 use Rattle.blocks.specs.declared.header.Fields.{Fields}
 use Rattle.history.specs.Line.{Line, start}
-use Rattle.history.specs.Slots.{no-fields, Report}
+use Rattle.history.specs.Slots.{no-fields, no-loss, Report}
 use Rattle.history.specs.History.{History, Closes, Singles, Opens, Keeps, Copies, Told}
+use Rattle.history.specs.History.{IsShortData, Loses, LostTold, one-lost}
+use Rattle.history.specs.History as history-of
 use Rattle.history.specs.History.{nothing-told, single-told, joined-told, opened-told, kept-told, copy-told}
+use Rattle.history.specs.declared.Lost.{Lost}
 use Rattle.history.proofs.Theorems.{theorem-unique, theorem-once}
+use Rattle.history.proofs.LostHolds.{theorem-lost-only}
 use Rattle.reports.specs.Lent.{Event}
 use Rattle.reports.specs.Units.{settingsFit}
 use Rattle.reports.specs.declared.unit.Settings.{Settings}
@@ -86,7 +91,7 @@ apart (copy-told c) = (omega arith, λ a b. (refl, refl))
 -- ---- the answer
 
 module _ (c : HearCall) (t : Taken c) where
-  given : Answered (c .settings) (c .earlier) (c .report) (c .reply) (c .old) (c .new)
+  pub given : Answered (c .settings) (c .earlier) (c .report) (c .reply) (c .old) (c .new)
   given = c .hears .answered (c .settings) (c .earlier) (leads (c .calls)) t
 
   said : {n : ℕ} → answer c .outcome ≡ n → Means (history c) (current c) n
@@ -114,6 +119,40 @@ module _ (c : HearCall) (t : Taken c) where
   nothing-asked (s, j, o, k, y) =
       nothing-told (λ g m a. s (some g m a)) (λ g m a. j (some g m a)) o k y
 
+-- what is lost, by what is told of it
+lost : (c : HearCall) → Taken c → (x : Lost)
+    → Loses (history c) (current c) x ↔ ((answer c .lost ≡ x) × IsShortData (x .message))
+lost c t x = (
+  λ l. (sym (is-told l), subst⁻¹ (λ (x : Lost). IsShortData (x .message)) (l .its-numbers) (l .short-data)),
+  λ (e, k). go (given c t .lost) (subst⁻¹ (λ (x : Lost). IsShortData (x .message)) e k) e,
+)
+  where
+    only : {y : Lost} → LostTold (history c) (current c) y → y ≡ answer c .lost
+    only z =
+        theorem-lost-only (history c) (current c) z ∙ sym (theorem-lost-only (history c) (current c) (given c t .lost))
+
+    is-told : Loses (history c) (current c) x → x ≡ answer c .lost
+    is-told l = only (one-lost x l)
+
+    go : {y : Lost} → LostTold (history c) (current c) y → IsShortData (y .message) → y ≡ x
+        → Loses (history c) (current c) x
+    go (history-of.none-lost n) (inl z) e = absurd (omega (arith, z))
+    go (history-of.none-lost n) (inr z) e = absurd (omega (arith, z))
+    go (one-lost y l) k e = subst (Loses (history c) (current c)) e l
+
+none-lost : (c : HearCall) → Taken c
+    → (answer c .lost ≡ no-loss) ↔ ((x : Lost) → Loses (history c) (current c) x → ⊥)
+none-lost c t = (
+  λ e x l. let (f, k) = lost c t x .0 l in no-loss-told (subst (λ (x : Lost). IsShortData (x .message)) (sym f ∙ e) k),
+  λ n.
+      theorem-lost-only (history c) (current c) (given c t .lost)
+      ∙ sym (theorem-lost-only (history c) (current c) (history-of.none-lost n)),
+)
+  where
+    no-loss-told : IsShortData 0 → ⊥
+    no-loss-told (inl z) = omega (arith, z)
+    no-loss-told (inr z) = omega (arith, z)
+
 pub demand3 : Demand3
 demand3 =
     record {
@@ -130,6 +169,8 @@ demand3 =
       quiet = λ c t a b. hands-nothing c t (apart (given c t .told) .1 a b);
       dropped = λ c t. given c t .dropped;
       mark = λ c t. given c t .mark;
+      lost = lost;
+      none-lost = none-lost;
       fault = λ c t. given c t .fault;
       receiver = λ c t. given c t .receiver;
       refused = λ c n e. let r = c .hears .refused n e in (r .answer, r .receiver, r .buffer);

@@ -3,5 +3,6 @@ pub mod Demand2Holds
 pub mod Demand3Holds
 pub mod Demand1Holds
 pub mod Req03Holds
+pub mod Req02Holds
 pub mod ExamplesHold
 pub mod RunHolds

@@ -32,8 +32,8 @@ pub record Settles (rules : List ℕ) (fault : ℕ) (Refused : ℕ → Type 0) :
 abbrev pub rules : HearCall → List ℕ
 rules c = let l = c .report in reportRules (l .frame) (l .slot) (l .kind) (length (l .blocks)) (length (c .old))
 
--- A refused report: outcome 0, nothing dropped, the number, no bits and no fields; the receiver and the buffer are as
--- before.
+-- A refused report: outcome 0, nothing dropped, the number, no bits and no fields, nothing lost; the receiver and the
+-- buffer are as before.
 pub record ReportRefused (c : HearCall) (number : ℕ) : Type 0 where
   pub answer : answer c ≡ plainAnswer 0 0 number
   pub receiver : c .reply .receiver ≡ c .before

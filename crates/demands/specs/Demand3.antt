@@ -3,7 +3,7 @@
 -- unit, every report since names the slot next in turn, each due slot held the due kind of block, the last kind in
 -- the last one only. What is handed over is that run's header fields and bits in order, once. Well-formed
 -- unfragmented messages for this unit are handed over exactly when they are not copies as document 01 defines them.
--- `Closes`, `Singles`, `Opens`, `Keeps`, `Copies` and `Drops` are read off the history of accepted reports, in
+-- `Closes`, `Singles`, `Opens`, `Keeps`, `Copies`, `Drops` and `Loses` are read off the history of accepted reports, in
 -- crates/history/specs/History.antt; what a report brings is read off its lent bytes, in
 -- crates/reports/specs/Lent.antt. Neither runs a receiver.
 use mathlib.Core.Path.{_≡_}
@@ -15,8 +15,10 @@ use lib.ListN.{length}
 use Rattle.store.specs.Store.{handed}
 use Rattle.blocks.specs.declared.header.Fields.{Fields}
 use Rattle.history.specs.Line.{_▸_, _⧺_, Every}
-use Rattle.history.specs.Slots.{no-fields, Report}
+use Rattle.history.specs.Slots.{no-fields, no-loss, Report}
 use Rattle.history.specs.History.{History, NotFragmented, Closes, Singles, Opens, Keeps, Copies, Drops}
+use Rattle.history.specs.History.{IsShortData, Loses}
+use Rattle.history.specs.declared.Lost.{Lost}
 use Rattle.reports.specs.Lent.{faultIn}
 use Rattle.receiver.specs.View.{plainAnswer}
 use Rattle.receiver.specs.Reached.{refusedWith, receiverAt}
@@ -73,6 +75,13 @@ pub record Demand3 : Type 0 where
   -- The dropped mark is 1 exactly when an open run ends here without being handed over, and 0 otherwise.
   pub dropped : (c : HearCall) → Taken c → (answer c .dropped ≡ 1) ↔ Drops (history c) (current c)
   pub mark : (c : HearCall) → Taken c → answer c .dropped ≤ 1
+  -- The answer has three numbers of a lost message exactly when a run of a DM-SDS DATA or a DM-SDS ACK is dropped here,
+  -- and they are its own: the source address of its header, its message type and the bits joined so far. Otherwise they
+  -- are zeros.
+  pub lost : (c : HearCall) → Taken c → (x : Lost)
+      → Loses (history c) (current c) x ↔ ((answer c .lost ≡ x) × IsShortData (x .message))
+  pub none-lost : (c : HearCall) → Taken c
+      → (answer c .lost ≡ no-loss) ↔ ((x : Lost) → Loses (history c) (current c) x → ⊥)
   -- The fault is the reader's.
   pub fault : (c : HearCall) → Taken c → answer c .fault ≡ faultIn (c .report)
   -- The receiver is a function of its settings and of the accepted reports.

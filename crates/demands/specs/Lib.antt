@@ -5,6 +5,7 @@ pub mod Calls
 pub mod Demand3
 pub mod Demand1
 pub mod Req03
+pub mod Req02
 pub mod RunRows
 pub mod RunTable
 pub mod Run

@@ -3,7 +3,7 @@
 use mathlib.Core.List.{List, [], _∷_}
 use mathlib.Core.Bool.{cond}
 use lib.ListN.{length}
-use Rattle.history.specs.Step.{State, number, message-of, step, answer}
+use Rattle.history.specs.Step.{State, number, message-of, step, answer, lost-in}
 use Rattle.reports.specs.Lent.{faultIn}
 use Rattle.reports.specs.declared.unit.Settings.{Settings}
 use Rattle.receiver.specs.Reached.{reportOf}
@@ -20,5 +20,14 @@ run t (r ∷ rs) =
     let x = reportOf unit (r .lent) in
     let a = answer t x in
     let o = a .outcome in
-    let given = number o ∷ cond (a .dropped) 1 0 ∷ faultIn (r .lent) ∷ length (message-of o) ∷ [] in
+    let l = lost-in t (a .dropped) in
+    let given =
+    number o ∷
+    cond (a .dropped) 1 0 ∷
+    faultIn (r .lent) ∷
+    length (message-of o) ∷
+    l .source ∷
+    l .message ∷
+    l .bits ∷
+    [] in
     (given gives r .stated) ∷ run (step t x) rs

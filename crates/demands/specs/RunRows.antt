@@ -6,7 +6,7 @@ use lib.Dec.{eqb}
 use Rattle.bits.specs.Bits.{bitsN, bytesN}
 use Rattle.reports.specs.Lent.{Lent, lent}
 
--- `stated`: outcome, dropped, fault, bits.
+-- `stated`: outcome, dropped, fault, bits; source, message type and bits of a message that is lost.
 pub record Row : Type 0 where
   pub lent : Lent
   pub stated : List ℕ

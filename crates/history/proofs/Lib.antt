@@ -5,6 +5,8 @@ pub mod OpenRun
 pub mod EarlierHeaders
 pub mod Outcomes
 pub mod Theorems
+pub mod LostHolds
+pub mod FateHolds
 pub mod OnceHolds
 pub mod SevenHolds
 pub mod Bounds

@@ -23,6 +23,11 @@ never xs x e = let z = ap count e in omega arith
 pub both : {A : Type 0} {xs ys : Line A} {x y : A} → xs ▸ x ≡ ys ▸ y → (xs ≡ ys) × (x ≡ y)
 both e = (cc, cc)
 
+-- The same line at the end of two.
+pub ⧺-cancel : {A : Type 0} (xs ys zs : Line A) → xs ⧺ zs ≡ ys ⧺ zs → xs ≡ ys
+⧺-cancel xs ys start e = e
+⧺-cancel xs ys (zs ▸ z) e = ⧺-cancel xs ys zs (both e .0)
+
 pub never-in : {A : Type 0} (before since : Line A) (x : A) → start ≡ (before ▸ x) ⧺ since → ⊥
 never-in before start x e = never before x (sym e)
 never-in before (since ▸ y) x e = never ((before ▸ x) ⧺ since) y (sym e)

@@ -125,7 +125,7 @@ abbrev run : Header → ℕ → ℕ → Place → History → Line (List Bool) �
 run h more f p since bs = record { header = h; more = more; countdown = f; place = p; since = since; blocks = bs }
 
 -- The run with one report more, and these blocks.
-abbrev grown : Run → Report → Line (List Bool) → Run
+abbrev pub grown : Run → Report → Line (List Bool) → Run
 grown u r bs = run (u .header) (u .more) (u .countdown) (u .place) (u .since ▸ r) bs
 
 abbrev pub on : Run → Report → Run
@@ -133,8 +133,8 @@ on u r = grown u r (u .blocks)
 
 -- It is open where the report is not in the due slot and these are the blocks before, or it is and brings the last of
 -- these.
-grows : {hs : History} (u : Run) (r : Report) (b : Bool) (bs : Line (List Bool)) → IsOpen hs u → Unbroken hs (r .place)
-    → NotFragmented (r .heard) → same-place (r .place) (next-due u) ≡ b
+pub grows : {hs : History} (u : Run) (r : Report) (b : Bool) (bs : Line (List Bool)) → IsOpen hs u
+    → Unbroken hs (r .place) → NotFragmented (r .heard) → same-place (r .place) (next-due u) ≡ b
     → cond b (each frag (u .blocks) ▸ r .heard) (each frag (u .blocks)) ≡ each frag bs → count bs ≤ u .more
     → IsOpen (hs ▸ r) (grown u r bs)
 grows u r b bs o k n e g l =

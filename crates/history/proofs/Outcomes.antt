@@ -110,15 +110,20 @@ module _ (hs : History) (r : Report) where
   pub run-at : (u : Run) → IsOpen hs u → Unbroken hs (r .place) → rest-at hs (r .place) .assembly ≡ shape (on u r)
   run-at u o k = left-at hs (r .place) k (found hs u o)
 
-  pub closes : (g : Fields) (m : List Bool) → Closes hs r g m → outcome-at hs r ≡ joined g m
-  closes g m c =
+  -- The answer at a report that closes a full run.
+  pub closing-at : {g : Fields} {m : List Bool} (c : Closes hs r g m) → let a = shape (on (c .run) r) in
+      answer (after hs) r ≡ answered (leaving hs r a) (end (c .last)) (on-end true true (lost-at hs (r .place)))
+  closing-at c =
       let u = c .run in
       let x = end (c .last) in
       let a = shape (on u r) in
-      ap (λ (y : Answer). y .outcome) (answer-at a x (run-at u (c .is-open) (c .unbroken)) (c .holds))
-      ∙ ap₂ (λ (d l : Bool). answered (leaving hs r a) x (on-end d l (lost-at hs (r .place))) .outcome)
+      answer-at a x (run-at u (c .is-open) (c .unbroken)) (c .holds)
+      ∙ ap₂ (λ (d l : Bool). answered (leaving hs r a) x (on-end d l (lost-at hs (r .place))))
       (same-place-is (r .place) (next-due u) (c .in-due)) (eq-eqb (count (u .blocks)) (u .more) (c .full))
-      ∙ ap₂ joined (sym (c .its-fields)) (sym (c .its-bits))
+
+  pub closes : (g : Fields) (m : List Bool) → Closes hs r g m → outcome-at hs r ≡ joined g m
+  closes g m c =
+      ap (λ (y : Answer). y .outcome) (closing-at c) ∙ ap₂ joined (sym (c .its-fields)) (sym (c .its-bits))
 
   pub keeps : Keeps hs r → outcome-at hs r ≡ kept
   keeps c =
@@ -175,14 +180,14 @@ module _ (hs : History) (r : Report) where
 
 -- The dropped mark. A run's own header again, by its test; and not the block that is due.
 module _ (u : Run) where
-  repeat-is : (r : Report) (h : Header) (f : ℕ) → Repeats u r h f
+  pub repeat-is : (r : Report) (h : Header) (f : ℕ) → Repeats u r h f
       → renews (shape (on u r) .run) (h .for-us) (h .raw) f ≡ true
   repeat-is r h f (w, a, b, c) =
       let n = left (suc (u .countdown)) (u .since ▸ r) in
       let e = repeats-is (u .header .raw) (h .raw) n f b (again-is (u .countdown) f (u .since ▸ r) c) in
       ap₂ _&&_ w (ap₂ _&&_ (eq-eqb (count (u .blocks)) 0 a) e)
 
-  repeat-true : (r : Report) (h : Header) (f : ℕ) → renews (shape (on u r) .run) (h .for-us) (h .raw) f ≡ true
+  pub repeat-true : (r : Report) (h : Header) (f : ℕ) → renews (shape (on u r) .run) (h .for-us) (h .raw) f ≡ true
       → Repeats u r h f
   repeat-true r h f e =
       let n = left (suc (u .countdown)) (u .since ▸ r) in
@@ -237,6 +242,15 @@ module _ (hs : History) (r : Report) where
       let lost = drops-lost (in-turn (after hs .last) (r .place)) refl (holds hs) in
       drops-step (rests-at hs r (holds hs)) lost (comes-at hs r) e
 
+  -- The mark at a fragmented header, in turn, where a run is open.
+  pub header-mark : (u : Run) (h : Header) (more f : ℕ) → IsOpen hs u → Unbroken hs (r .place)
+      → r .heard ≡ fragmented h more f
+      → dropped-at hs r ≡ not (renews (shape (on u r) .run) (h .for-us) (h .raw) f)
+  header-mark u h more f o k e =
+      let a = shape (on u r) in
+      ap (λ (y : Answer). y .dropped) (answer-at hs r a (fragmented h more f) (run-at hs r u o k) e)
+      ∙ mark-is (h .for-us) true (renews (a .run) (h .for-us) (h .raw) f) (lost-at hs (r .place))
+
   -- The other way round.
   dropping : (u : Run) (t : Bool) → IsOpen hs u → Ends hs u r → in-turn (after hs .last) (r .place) ≡ t
       → dropped-at hs r ≡ true
@@ -246,12 +260,8 @@ module _ (hs : History) (r : Report) where
       (ap₂ (λ (t : Bool) (a : Assembly). broken-off t (a .run)) e (found hs u o))
   dropping u true o (broken n) e = absurd (n (turn-true hs (r .place) e))
   dropping u true o (other-header h more f x n) e =
-      let a = shape (on u r) in
-      let again = renews (a .run) (h .for-us) (h .raw) f in
-      let k = run-at hs r u o (turn-true hs (r .place) e) in
-      ap (λ (y : Answer). y .dropped) (answer-at hs r a (fragmented h more f) k x)
-      ∙ mark-is (h .for-us) true again (lost-at hs (r .place))
-      ∙ ap not (untrue again (λ z. n (repeat-true u r h f z)))
+      header-mark u h more f o (turn-true hs (r .place) e) x
+      ∙ ap not (untrue (renews (shape (on u r) .run) (h .for-us) (h .raw) f) (λ z. n (repeat-true u r h f z)))
   dropping u true o (missed d n z) e =
       let q = r .place in
       let a = shape (on u r) in

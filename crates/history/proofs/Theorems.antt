@@ -84,7 +84,7 @@ module _ (hs : History) (r : Report) where
       (a₁ ∙ sym a₂, b₁ ∙ sym b₂, c₁ ∙ sym c₂)
 
 -- Once: after a run is handed over no report hands over a joined message before another fragmented header is heard.
-closed : (hs : History) (r : Report) (g : Fields) (m : List Bool) → Closes hs r g m → At (hs ▸ r) no-assembly
+pub closed : (hs : History) (r : Report) (g : Fields) (m : List Bool) → Closes hs r g m → At (hs ▸ r) no-assembly
 closed hs r g m c =
     let u = c .run in
     let x = end (c .last) in
@@ -93,7 +93,7 @@ closed hs r g m c =
     ∙ ap₂ (λ (d l : Bool). changed (leaving hs r a) (r .place) x (on-end d l (lost-at hs (r .place))) .assembly)
     (same-place-is (r .place) (next-due u) (c .in-due)) (eq-eqb (count (u .blocks)) (u .more) (c .full))
 
-stays-closed : (hs later : History) → At hs no-assembly → Every (λ r. NotFragmented (r .heard)) later
+pub stays-closed : (hs later : History) → At hs no-assembly → Every (λ r. NotFragmented (r .heard)) later
     → At (hs ⧺ later) no-assembly
 stays-closed hs start e n = e
 stays-closed hs (later ▸ r) e n =

@@ -2,15 +2,18 @@
 -- Assumes nothing.
 use Prim.Native.Nat.{ℕ, _+_, _≤_, _<_}
 use mathlib.Core.Path.{_≡_}
+use mathlib.Core.Logic.{_⊎_}
 use mathlib.Core.Bool.{Bool, true, false, cond}
 use mathlib.Core.List.{List, [], _∷_, _++_}
+use lib.ListN.{length}
 use Rattle.bits.specs.Runs.{joined}
 use Rattle.history.specs.Line.{Line, start, _▸_, _⧺_, count, each, list, Every}
-use Rattle.history.specs.Slots.{same-place, next, tick, due, no-fields, Header, Heard, nothing, fragmented}
-use Rattle.history.specs.Slots.{unfragmented, frag, end, Report}
+use Rattle.history.specs.Slots.{same-place, next, tick, due, no-fields, no-loss, Header, Heard, nothing}
+use Rattle.history.specs.Slots.{fragmented, unfragmented, frag, end, Report}
 use Rattle.history.specs.Slots.{is-fragmented, header-in, countdown-in}
 use Rattle.blocks.specs.declared.header.Fields.{Fields}
 use Rattle.history.specs.declared.Place.{Place}
+use Rattle.history.specs.declared.Lost.{Lost}
 
 abbrev pub History : Type 0
 History = Line Report
@@ -177,6 +180,31 @@ pub record Drops (hs : History) (r : Report) : Type 0 where
   pub run : Run
   pub is-open : IsOpen hs run
   pub ends : Ends hs run r
+
+-- A DM-SDS DATA (23) or a DM-SDS ACK (24): of these two a loss is told (7.4.21, 8.5.4.2).
+abbrev pub IsShortData : ℕ → Type 0
+IsShortData message = (message ≡ 23) ⊎ (message ≡ 24)
+
+-- What is told of a run: the source address of its header, its message type, and the bits joined so far, those of the
+-- header and of the blocks kept.
+abbrev pub loss : Run → Lost
+loss u =
+    record {
+      source = u .header .fields .source .ssi;
+      message = u .header .fields .message;
+      bits = length (join (u .header .bits) (u .blocks));
+    }
+
+-- The report loses a message of these two: its run is dropped here.
+pub record Loses (hs : History) (r : Report) (x : Lost) : Type 0 where
+  pub drops : Drops hs r
+  pub short-data : IsShortData (drops .run .header .fields .message)
+  pub its-numbers : x ≡ loss (drops .run)
+
+-- The three numbers that the history asks for.
+pub data LostTold (hs : History) (r : Report) : Lost → Type 0 where
+  none-lost : ((x : Lost) → Loses hs r x → ⊥) → LostTold hs r no-loss
+  one-lost : (x : Lost) → Loses hs r x → LostTold hs r x
 
 -- The answer that the history asks for: outcome number, header fields, and the message handed over.
 pub data Told (hs : History) (r : Report) : ℕ → Fields → List Bool → Type 0 where

@@ -4,4 +4,5 @@ pub mod Slots
 pub mod History
 pub mod Step
 pub mod Once
+pub mod Fate
 pub mod Seven

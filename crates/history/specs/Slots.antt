@@ -9,6 +9,7 @@ use Rattle.blocks.specs.Header as blocks
 use Rattle.blocks.specs.declared.header.Fields.{Fields}
 use Rattle.store.specs.declared.Raw.{Raw}
 use Rattle.history.specs.declared.Place.{Place}
+use Rattle.history.specs.declared.Lost.{Lost}
 use Rattle.history.specs.declared.What.{What}
 use Rattle.history.specs.declared.What.the-variants.{Nothing, Fragmented, Unfragmented, Frag, End}
 
@@ -28,12 +29,15 @@ tick q n = cond (eqb (q .slot) 1) (suc n) n
 abbrev pub due : ℕ → ℕ → ℕ → Place
 due x f i = record { frame = dueFrame x f i; slot = 1 }
 
--- No header fields, and no SCH/H.
+-- No header fields, no SCH/H, and nothing lost.
 abbrev pub no-fields : Fields
 no-fields = blocks.no-fields
 
 abbrev pub no-raw : Raw
 no-raw = record { high = 0; low = 0 }
+
+abbrev pub no-loss : Lost
+no-loss = record { source = 0; message = 0; bits = 0 }
 
 -- A well-formed header: its SCH/H but for the countdown, whose two bits are 0 here; whether it is for this unit; what
 -- it reads as.

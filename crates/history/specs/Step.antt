@@ -5,8 +5,9 @@ use mathlib.Core.Bool.{Bool, true, false, cond, not, _&&_, _||_}
 use mathlib.Core.List.{List, [], _∷_, _++_}
 use mathlib.Core.Option.{Option, none, some}
 use lib.Dec.{eqb}
+use lib.ListN.{length}
 use Rattle.history.specs.Line.{Line, start, _▸_}
-use Rattle.history.specs.Slots.{same-place, next, due, no-fields, no-raw, Heard, Report}
+use Rattle.history.specs.Slots.{same-place, next, due, no-fields, no-raw, no-loss, Heard, Report}
 use Rattle.history.specs.Slots.{what-in, header-in, more-in, countdown-in, bits-in}
 use Rattle.store.specs.Store.{same-raw}
 use Rattle.store.specs.declared.Raw.{Raw}
@@ -14,6 +15,7 @@ use Rattle.blocks.specs.declared.header.Fields.{Fields}
 use Rattle.history.specs.declared.Place.{Place}
 use Rattle.history.specs.declared.Near.{Near}
 use Rattle.history.specs.declared.Open.{Open}
+use Rattle.history.specs.declared.Lost.{Lost}
 use Rattle.history.specs.declared.Verdict.{Verdict}
 use Rattle.history.specs.declared.Act.{Act}
 use Rattle.history.specs.declared.Act.the-variants.{Stays, Ends, Opens, Takes}
@@ -316,3 +318,19 @@ outcome-at hs r = answer (after hs) r .outcome
 
 abbrev pub dropped-at : Line Report → Report → Bool
 dropped-at hs r = answer (after hs) r .dropped
+
+-- What is told of an assembly that ends without being handed over: of a DM-SDS DATA (23) and a DM-SDS ACK (24) the
+-- source address, the message type and so many bits; of all others, and where none is dropped, zeros.
+abbrev pub is-short-data : ℕ → Bool
+is-short-data message = eqb message 23 || eqb message 24
+
+abbrev pub lost-of : Bool → ℕ → ℕ → ℕ → Lost
+lost-of dropped source message n =
+    cond (dropped && is-short-data message) (record { source = source; message = message; bits = n }) no-loss
+
+abbrev pub lost-in : State → Bool → Lost
+lost-in s dropped =
+    let g = s .assembly .run .fields in lost-of dropped (g .source .ssi) (g .message) (length (s .assembly .joined))
+
+abbrev pub loss-at : Line Report → Report → Lost
+loss-at hs r = lost-in (after hs) (dropped-at hs r)

@@ -57,6 +57,22 @@ pub enum Act {
     Takes,
 }
 
+// A message that is lost on the way, of the two types that are told of: its source address (the SSI, 0 where it is
+// absent), its message type, and the bits joined so far. Three zeros where there is none.
+#[repr(C)]
+pub struct Lost {
+    pub source: u32,
+    pub message: u8,
+    pub bits: usize,
+}
+
+impl Lost {
+    // The two: DM-SDS DATA and DM-SDS ACK.
+    pub const SDS_DATA: u8 = 23;
+
+    pub const SDS_ACK: u8 = 24;
+}
+
 // What a report comes to: its outcome; whether an open assembly ends here without being handed over; what becomes of
 // the assembly; whether the header is one more that copies can come of.
 pub struct Verdict {

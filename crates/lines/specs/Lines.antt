@@ -39,12 +39,18 @@ restOf [] = 1
 restOf (x ∷ xs) = cond (eqb x 90) (restOf xs) 0
 
 -- The first n bytes of a lent output and what is said of the rest, a space before each; a word and numbers before
--- them, and a line end.
+-- them, and a line end; and more numbers before the line end.
 unfoldable pub shownOf : ℕ → List ℕ → List ℕ
 shownOf n s = (32 ∷ hexText (take n s)) ++ spaced (restOf (drop n s) ∷ [])
 
+unfoldable pub startWith : List ℕ → List ℕ → ℕ → List ℕ → List ℕ
+startWith word ns n s = startOf word ns ++ shownOf n s
+
 unfoldable pub lineWith : List ℕ → List ℕ → ℕ → List ℕ → List ℕ
-lineWith word ns n s = (startOf word ns ++ shownOf n s) ++ (10 ∷ [])
+lineWith word ns n s = startWith word ns n s ++ (10 ∷ [])
+
+unfoldable pub lineThen : List ℕ → List ℕ → ℕ → List ℕ → List ℕ → List ℕ
+lineThen word ns n s more = (startWith word ns n s ++ spaced more) ++ (10 ∷ [])
 
 -- ---- What the calls print of a record's body; none where it is too short.
 

@@ -5,7 +5,7 @@ ghost use mathlib.Core.List.{[], _∷_, _++_};
 ghost use Prim.Native.Nat.{_+_, _*_, _≤_, _<_};
 ghost use lib.ListN.{length, drop};
 ghost use Rattle.text.specs.Text.{Wrote, decimalOf, hexOf};
-ghost use Rattle.lines.specs.Lines.{Stands, Says, startOf, lineOf, lineWith};
+ghost use Rattle.lines.specs.Lines.{Stands, Says, startOf, lineOf, startWith, lineWith, lineThen};
 ghost use Rattle.lines.specs.Lines.{hexText, restOf, shownOf, unknownLine};
 use libc::STDOUT_FILENO;
 
@@ -77,14 +77,37 @@ fn shown(out: &mut [u8], at: usize, s: &[u8], n: usize) -> usize
     text::numbers(out, end, &ns)
 }
 
-// A word, numbers, the first `n` bytes of a lent output with what is said of the rest, and a line end.
+// A word, numbers, and the first `n` bytes of a lent output with what is said of the rest.
+fn start_with(out: &mut [u8], word: &[u8], ns: &[u64], s: &[u8], n: usize) -> usize
+    requires { ⌜ (n ≤ length (now s)) × (length (now word) + 21 * length (now ns) + 2 * n + 23 ≤ length (now out)) ⌝ }
+    ensures { λ r. ⌜ Wrote (now (out .entry)) 0 (startWith (now (word .entry)) (now (ns .entry)) n (now (s .entry)))
+        (now (out .exit)) r
+        × (r ≤ length (now (word .entry)) + 21 * length (now (ns .entry)) + 2 * n + 23) ⌝ }
+{
+    let at = start(out, word, ns);
+    shown(out, at, s, n)
+}
+
+// The same, and a line end.
 pub fn line_with(out: &mut [u8], word: &[u8], ns: &[u64], s: &[u8], n: usize) -> usize
     requires { ⌜ (n ≤ length (now s)) × (length (now word) + 21 * length (now ns) + 2 * n + 23 < length (now out)) ⌝ }
     ensures { λ r. ⌜ Stands (now (out .entry)) (lineWith (now (word .entry)) (now (ns .entry)) n (now (s .entry)))
         (now (out .exit)) r ⌝ }
 {
-    let at = start(out, word, ns);
-    let end = shown(out, at, s, n);
+    let end = start_with(out, word, ns, s, n);
+    out[end] = b'\n';
+    end + 1
+}
+
+// The same, and more numbers before the line end.
+pub fn line_then(out: &mut [u8], word: &[u8], ns: &[u64], s: &[u8], n: usize, more: &[u64]) -> usize
+    requires { ⌜ (n ≤ length (now s))
+        × (length (now word) + 21 * length (now ns) + 2 * n + 23 + 21 * length (now more) < length (now out)) ⌝ }
+    ensures { λ r. ⌜ Stands (now (out .entry))
+        (lineThen (now (word .entry)) (now (ns .entry)) n (now (s .entry)) (now (more .entry))) (now (out .exit)) r ⌝ }
+{
+    let at = start_with(out, word, ns, s, n);
+    let end = text::numbers(out, at, more);
     out[end] = b'\n';
     end + 1
 }

@@ -6,7 +6,7 @@
 //         unit FAULT
 //     4 report             frame 1, slot 1, kind 1 (1 nothing, 2 SCH/S and SCH/H, 3 SCH/F), buffer length 2 (at most
 //                          1,024), blocks: the rest
-//         report OUTCOME DROPPED FAULT BITS DTYPE DEST STYPE SRC MNI TYPE WIDTH ELEMENTS HEX REST
+//         report OUTCOME DROPPED FAULT BITS DTYPE DEST STYPE SRC MNI TYPE WIDTH ELEMENTS HEX REST LSOURCE LTYPE LBITS
 //     5 build              system 1, A/B 1, slot 1, frame 1, countdown 1, destination type 1, destination 4, source
 //                          type 1, source 4, MNI 4, message type 1, width 1, elements 8, n 4, output length 2 (at
 //                          most 1,024), message: the rest
@@ -34,7 +34,9 @@
 // Kind 11 makes the bookings fresh ones, and so does the start; kind 12 books in those that the record before left.
 // The buffer of a report and the output of a build are filled with 5A (hexadecimal) before the call. HEX is what was
 // written, two lower case digits for each byte: the first (BITS + 7) / 8 of the buffer or of the output of kind 10,
-// 24 + 34 K of the output of kind 5; `-` for none. REST is 1 if every later byte is still 5A, else 0.
+// 24 + 34 K of the output of kind 5; `-` for none. REST is 1 if every later byte is still 5A, else 0. LSOURCE, LTYPE
+// and LBITS are of a DM-SDS DATA or a DM-SDS ACK that was coming in and is lost with this report: its source, its
+// message type and the bits that had come; zeros where there is none.
 // KIND is 1 transfer, 2 report, 3 ack, 4 short report, 0 refused. ADDRESSED is 1 with a calling party, whose MNI and
 // SSI are CMNI and CSSI. STATUS is the delivery status, of a short report its type. FADDRESS is the forward address
 // as one number: SSI, or SSI times 2^24 and the extension. FIRST and BITS are the user data's. MARK is 0 nothing to

@@ -1,12 +1,13 @@
 -- What the calls that give another receiver print: settings and slot reports.
 use mathlib.Core.Path.{_≡_}
-use mathlib.Core.Bool.{Bool, true, false, cond}
+use mathlib.Core.Bool.{Bool, true, false}
 use mathlib.Core.List.{List, [], _∷_}
 use mathlib.Core.Option.{Option, none, some}
 use Prim.Native.Nat.{ℕ, _+_, _/_}
 use lib.Dec.{leb}
 use lib.ListN.{length, drop, getD, replicate}
 use Rattle.reports.specs.Lent.{Lent, lent}
+use Rattle.history.specs.declared.Lost.{Lost}
 use Rattle.receiver.specs.View.{freshOf}
 use Rattle.receiver.specs.Reached.{Hears}
 use Rattle.receiver.specs.declared.Receiver.{Receiver}
@@ -14,7 +15,7 @@ use Rattle.receiver.specs.declared.Reply.{Reply}
 use Rattle.receiver.specs.declared.Fresh.{Fresh}
 use Rattle.receiver.specs.declared.answer.Answer.{Answer}
 use Rattle.records.specs.Numbers.{twoAt, fourAt}
-use Rattle.lines.specs.Lines.{lineOf, lineWith, unknownLine, Says}
+use Rattle.lines.specs.Lines.{lineOf, lineThen, unknownLine, Says}
 use Rattle.probe_reports.specs.declared.ReceiverLine.{ReceiverLine}
 
 -- ---- The lines.
@@ -23,7 +24,8 @@ use Rattle.probe_reports.specs.declared.ReceiverLine.{ReceiverLine}
 abbrev pub unitText : ℕ → List ℕ
 unitText fault = lineOf (117 ∷ 110 ∷ 105 ∷ 116 ∷ []) (fault ∷ [])
 
--- A report: `report`, the answer's numbers, and the buffer afterwards, of which the message's bytes were written.
+-- A report: `report`, the answer's numbers, the buffer afterwards, of which the message's bytes were written, and the
+-- numbers of a message that is lost.
 abbrev pub answerNumbers : Answer → List ℕ
 answerNumbers a =
     a .outcome ∷
@@ -40,11 +42,15 @@ answerNumbers a =
     a .fields .elements ∷
     []
 
+abbrev pub lostNumbers : Lost → List ℕ
+lostNumbers x = x .source ∷ x .message ∷ x .bits ∷ []
+
 abbrev pub handedBy : Answer → ℕ
 handedBy a = (a .bits + 7) / 8
 
 abbrev pub reportText : Answer → List ℕ → List ℕ
-reportText a s = lineWith (114 ∷ 101 ∷ 112 ∷ 111 ∷ 114 ∷ 116 ∷ []) (answerNumbers a) (handedBy a) s
+reportText a s =
+    lineThen (114 ∷ 101 ∷ 112 ∷ 111 ∷ 114 ∷ 116 ∷ []) (answerNumbers a) (handedBy a) s (lostNumbers (a .lost))
 
 -- ---- What a body makes of the receiver and prints.
 

@@ -5,12 +5,13 @@ ghost use Prim.Native.Nat.{_≤_};
 ghost use lib.ListN.{length};
 ghost use Rattle.receiver.specs.Reached.{Reached};
 ghost use Rattle.lines.specs.Lines.{Stands};
-ghost use Rattle.probe_reports.specs.Reports.{handedBy, answerNumbers, reportText, unitText};
+ghost use Rattle.probe_reports.specs.Reports.{handedBy, answerNumbers, lostNumbers, reportText, unitText};
 ghost use Rattle.probe_reports.specs.Reports.{HeardInto, UnitTells, ReportTells};
+use history::Lost;
 use lines::line::BEFORE;
 use lines::line::Line;
 use lines::line::line_of;
-use lines::line::line_with;
+use lines::line::line_then;
 use lines::line::unknown;
 use receiver::Receiver;
 use receiver::answer::Answer;
@@ -49,12 +50,20 @@ fn answer_numbers(a: Answer) -> [u64; 12]
     ]
 }
 
+// Of a message that is lost.
+fn lost_numbers(x: Lost) -> [u64; 3]
+    ensures { λ r. ⌜ r ≡ lostNumbers x ⌝ }
+{
+    [x.source as u64, x.message as u64, x.bits as u64]
+}
+
 fn report_line(out: &mut [u8], a: Answer, s: &[u8]) -> usize
     requires { ⌜ (handedBy a ≤ length (now s)) × (length (now s) ≤ 1024) × (4096 ≤ length (now out)) ⌝ }
     ensures { λ r. ⌜ Stands (now (out .entry)) (reportText a (now (s .entry))) (now (out .exit)) r ⌝ }
 {
     let ns = answer_numbers(a);
-    line_with(out, b"report", &ns, s, (a.bits + 7) / 8)
+    let lost = lost_numbers(a.lost);
+    line_then(out, b"report", &ns, s, (a.bits + 7) / 8, &lost)
 }
 
 pub fn unit(before: Receiver, body: &[u8], line: &mut [u8]) -> ReceiverLine

@@ -8,8 +8,10 @@ use lib.ListN.{length}
 use Rattle.store.specs.Store.{handed}
 use Rattle.blocks.specs.declared.header.Fields.{Fields}
 use Rattle.history.specs.Line.{Line}
-use Rattle.history.specs.Step.{message-of, outcome-at, dropped-at}
+use Rattle.history.specs.Step.{message-of, outcome-at, dropped-at, loss-at}
+use Rattle.history.specs.declared.Lost.{Lost}
 use Rattle.history.proofs.Theorems.{theorem-told-only, theorem-dropped}
+use Rattle.history.proofs.LostHolds.{theorem-lost-only}
 use Rattle.reports.specs.Lent.{Lent, Event, faultIn}
 use Rattle.reports.specs.declared.unit.Settings.{Settings}
 use Rattle.receiver.specs.View.{answerOf}
@@ -24,16 +26,16 @@ mark-of true h f g = g refl
 mark-of false {n} h f g =
     let z : n ≡ 1 → ⊥ = λ e. let t = f e in let y : _≡_ {A = ℕ} 0 1 = cc in omega arith in omega arith
 
-parts : (x : Answer) {o d f b : ℕ} {g : Fields} → x .outcome ≡ o → x .dropped ≡ d → x .fault ≡ f → x .bits ≡ b
-    → x .fields ≡ g
-    → x ≡ record { outcome = o; dropped = d; fault = f; bits = b; fields = g }
-parts x a b c d e = rw (← a, ← b, ← c, ← d, ← e) refl
+parts : (x : Answer) {o d f b : ℕ} {g : Fields} {y : Lost} → x .outcome ≡ o → x .dropped ≡ d → x .fault ≡ f
+    → x .bits ≡ b → x .fields ≡ g → x .lost ≡ y
+    → x ≡ record { outcome = o; dropped = d; fault = f; bits = b; fields = g; lost = y }
+parts x a b c d e f = rw (← a, ← b, ← c, ← d, ← e, ← f) refl
 
 module _ (s : Settings) (ls : Line Event) (l : Lent) where
   pub answer-is : {r : Reply} {old new : List ℕ} → Answered s ls l r old new
       → r .answer
       ≡ answerOf (outcome-at (reports s ls) (reportOf s l)) (cond (dropped-at (reports s ls) (reportOf s l)) 1 0)
-      (faultIn l)
+      (faultIn l) (loss-at (reports s ls) (reportOf s l))
   answer-is {r} a =
       let t = theorem-told-only (reports s ls) (reportOf s l) (a .told) in
       let d = theorem-dropped (reports s ls) (reportOf s l) in
@@ -41,7 +43,7 @@ module _ (s : Settings) (ls : Line Event) (l : Lent) where
       (mark-of (dropped-at (reports s ls) (reportOf s l)) (a .mark) (λ e. d .1 (a .dropped .0 e))
       (λ e. a .dropped .1 (d .0 e)))
       (a .fault)
-      (a .bits ∙ ap length (t .2)) (t .1)
+      (a .bits ∙ ap length (t .2)) (t .1) (theorem-lost-only (reports s ls) (reportOf s l) (a .lost))
 
   pub buffer-is : {r : Reply} {old new : List ℕ} → Answered s ls l r old new
       → new ≡ handed (message-of (outcome-at (reports s ls) (reportOf s l))) old

@@ -10,23 +10,26 @@ use lib.ListN.{length, replicate}
 use borrow.Author.Tests.{eqb-true, eqb-false}
 use Rattle.store.specs.Store.{storeOf, handed}
 use Rattle.history.specs.Line.{Line, start, _▸_}
-use Rattle.history.specs.Slots.{due, Heard, Report, header-in, more-in, countdown-in, bits-in}
+use Rattle.history.specs.Slots.{due, no-loss, Heard, Report, header-in, more-in, countdown-in, bits-in}
 use Rattle.history.specs.History.{History}
 use Rattle.history.specs.Step as step
 use Rattle.history.specs.Step.{State, message-of, in-turn, is-over, older-near, older-run, broken-off, judge}
 use Rattle.history.specs.Step.{near-of, near-after, opening, run-after, joined-after, outcome-of, aged, verdict-at}
 use Rattle.history.specs.Step.{answer, after}
-use Rattle.history.specs.Step.{quiet, is-held, is-due, on-nothing, passed, outcome-at, dropped-at}
+use Rattle.history.specs.Step.{quiet, is-held, is-due, on-nothing, passed, outcome-at, dropped-at, lost-of, lost-in}
+use Rattle.history.specs.Step.{loss-at}
 use Rattle.history.specs.declared.Place.{Place}
 use Rattle.history.specs.declared.Near.{Near}
 use Rattle.history.specs.declared.Nears.{Nears}
 use Rattle.history.specs.declared.Open.{Open}
+use Rattle.history.specs.declared.Lost.{Lost}
 use Rattle.history.specs.declared.Verdict.{Verdict}
 use Rattle.history.specs.declared.What.the-variants.{Nothing}
 use Rattle.history.proofs.Verdicts.{absurd-bool, Hands, no-hand, hand, Comes, passing, missing, keeping, closing}
 use Rattle.history.proofs.Verdicts.{heading, comes, rest-at}
 use Rattle.history.proofs.Bounds.{Small}
 use Rattle.history.proofs.Theorems.{theorem-told, theorem-dropped}
+use Rattle.history.proofs.LostHolds.{theorem-lost}
 use Rattle.reports.specs.Lent.{Lent, Event, heard, faultIn}
 use Rattle.reports.specs.Turns.{follows}
 use Rattle.reports.specs.Units.{unit, settingsFit}
@@ -36,7 +39,7 @@ use Rattle.reports.proofs.Counting.{and-false}
 use Rattle.reports.proofs.NearLaws.{places-take, fewer-left, judged-list, nears-after}
 use Rattle.reports.specs.declared.unit.Settings.{Settings}
 use Rattle.reports.specs.declared.read.Brought.{Brought}
-use Rattle.receiver.specs.View.{receiverOf, newReceiver, answerOf, plainAnswer, broughtBits, Counted}
+use Rattle.receiver.specs.View.{receiverOf, newReceiver, answerOf, plainAnswer, withLoss, broughtBits, Counted}
 use Rattle.receiver.specs.View.{Stored, Tells, Told, noPlace, Brings}
 use Rattle.receiver.specs.Reached.{reportOf, reports, refusedWith, Accepted, Leads, Reached, Answered, Hears}
 use Rattle.receiver.specs.declared.answer.Answer.{Answer}
@@ -102,7 +105,8 @@ module _ (s : Settings) (ls : Line Event) {before : Receiver} (k : Leads s ls be
 
 -- ---- what a report brings, by the fault that it is refused for
 
-pub brings-fault : {f : ℕ} (s : Settings) (l : Lent) → (f ≡ 0 → ⊥) → {x : Brought} → x ≡ headless Nothing f 0 0 → Brings f s l x
+pub brings-fault : {f : ℕ} (s : Settings) (l : Lent) → (f ≡ 0 → ⊥) → {x : Brought} → x ≡ headless Nothing f 0 0
+    → Brings f s l x
 brings-fault s l n e =
     rw e
     (record {
@@ -266,9 +270,11 @@ pub record Works (before : Receiver) (fault : ℕ) (l : Lent) (r : Reply) (old n
   pub store : List ℕ
   pub x : Brought
   pub v : Verdict
+  pub told : Answer
   pub over : Bool
   pub left : ℕ
   pub fallen : List ℕ
+  pub loss : Lost
   pub turn-is : turn ≡ cond (eqb fault 0) (follows (before .place) (place l)) true
   pub tick-is : tick ≡ cond (eqb fault 0) (place l) noPlace
   pub lost-is : lost ≡ broken-off turn (before .assembly .run)
@@ -279,14 +285,17 @@ pub record Works (before : Receiver) (fault : ℕ) (l : Lent) (r : Reply) (old n
   pub store-is : store ≡ cond turn (before .assembly .store) (storeOf [])
   pub brings : Brings fault (before .settings) l x
   pub judges : Judged x run places known tick lost v
-  pub tells : Told v x (broughtBits x (l .blocks)) (run .fields) bits store (r .answer) old new
+  pub answer-is : r .answer ≡ withLoss told loss
+  pub loss-is : let g = before .assembly .run .fields in
+      loss ≡ lost-of (v .dropped) (g .source .ssi) (g .message) (before .assembly .bits)
+  pub tells : Told v x (broughtBits x (l .blocks)) (run .fields) bits store told old new
   pub settings-after : r .receiver .settings ≡ before .settings
   pub place-after : r .receiver .place ≡ cond (eqb fault 0) (place l) (before .place)
   pub over-is : over ≡ cond (eqb fault 0) (is-over (place l)) false
   pub falls : Fallen over places known left fallen
   pub keeps : Kept (v .near) over x fallen left (r .receiver .near .count) (r .receiver .near .places)
-  pub run-after :
-      r .receiver .assembly .run ≡ run-after (v .act) (opening (x .fields) (x .raw) (x .more) (l .frame) (x .countdown)) run
+  pub run-after : let o = opening (x .fields) (x .raw) (x .more) (l .frame) (x .countdown) in
+      r .receiver .assembly .run ≡ run-after (v .act) o run
   pub bits-after : Counted (v .act) bits (x .bits) (r .receiver .assembly .bits)
   pub store-after : Stored (v .act) bits (broughtBits x (l .blocks)) store (r .receiver .assembly .store)
 
@@ -306,7 +315,8 @@ pub answers : (s : Settings) (ls : Line Event) (l : Lent) {r : Reply} {old new :
     → (let a = answer (after (reports s ls)) (reportOf s l) in
     r ≡ record {
       receiver = receiverOf s (step.step (after (reports s ls)) (reportOf s l));
-      answer = answerOf (a .outcome) (cond (a .dropped) 1 0) (faultIn l);
+      answer =
+          answerOf (a .outcome) (cond (a .dropped) 1 0) (faultIn l) (lost-in (after (reports s ls)) (a .dropped));
     })
     → new ≡ handed (message-of (outcome-at (reports s ls) (reportOf s l))) old → Answered s ls l r old new
 unfolding after
@@ -321,6 +331,7 @@ answers s ls l e b =
       buffer = b;
       dropped = rw e ((λ i. theorem-dropped hs x .0 (mark-one d i)), (λ i. ap markOf (theorem-dropped hs x .1 i)));
       mark = rw e (mark-small d);
+      lost = rw e (theorem-lost hs x);
       fault = rw e refl;
       receiver = rw e refl;
     }
@@ -340,7 +351,9 @@ module _ (s : Settings) (ls : Line Event) {before : Receiver} (k : Leads s ls be
   rest = left s ls k l
 
   reads : Reads s l (w .x)
-  reads = subst (λ (z : Settings). Reads z l (w .x)) (ap (λ (z : Receiver). z .settings) (k .there)) (w .brings .accepted refl)
+  reads =
+      subst (λ (z : Settings). Reads z l (w .x)) (ap (λ (z : Receiver). z .settings) (k .there))
+      (w .brings .accepted refl)
 
   run-left : w .run ≡ rest .assembly .run
   run-left = w .run-is ∙ rw (w .tick-is) (run-is s ls k l (w .turn-is))
@@ -401,13 +414,18 @@ module _ (s : Settings) (ls : Line Event) {before : Receiver} (k : Leads s ls be
         assembly = record { run = e₃ i; bits = e₄ i; store = e₅ i };
       }
 
-  told-is : Tells (outcome-at history next) (dropped-at history next) (faultIn l) (r .answer) old new
+  -- what is told of an assembly is told of the step's
+  loss-left : w .loss ≡ loss-at history next
+  unfolding answer
+  loss-left = w .loss-is ∙ rw (verdict-is, k .there) refl
+
+  told-is : Tells (outcome-at history next) (dropped-at history next) (faultIn l) (w .told) old new
   unfolding answer
   told-is =
       let j = rest .assembly .joined in
       let T : Verdict → Brought → List Bool → Open → Type 0 =
       λ v y b a.
-      Tells (outcome-of (v .outcome) (y .fields) b (a .fields) (j ++ b)) (v .dropped) (y .fault) (r .answer) old new
+      Tells (outcome-of (v .outcome) (y .fields) b (a .fields) (j ++ b)) (v .dropped) (y .fault) (w .told) old new
       in
       let t₁ : T verdict (w .x) (broughtBits (w .x) (l .blocks)) (w .run) =
       subst (λ (v : Verdict). T v (w .x) (broughtBits (w .x) (l .blocks)) (w .run)) verdict-is
@@ -420,7 +438,8 @@ module _ (s : Settings) (ls : Line Event) {before : Receiver} (k : Leads s ls be
   pub answered : Answered s ls l r old new
   answered =
       answers s ls l
-      (ap₂ (λ (x : Receiver) (y : Answer). record { receiver = x; answer = y }) receiver-is (told-is .answer))
+      (ap₂ (λ (x : Receiver) (y : Answer). record { receiver = x; answer = y }) receiver-is
+      (w .answer-is ∙ ap₂ withLoss (told-is .answer) loss-left))
       (told-is .buffer)
 
   leads-on : Accepted l → Leads s (ls ▸ l) (r .receiver)
@@ -444,8 +463,8 @@ heard-all k l old z w = (
 )
 
 pub not-heard : {before : Receiver} (k : Reached before) (l : Lent) (old : List ℕ) {f : ℕ} → f ≡ refusedWith l old
-    → (f ≡ 0 → ⊥) → {r : Reply} → r ≡ record { receiver = before; answer = plainAnswer 0 0 f } → {new : List ℕ} → new ≡ old
-    → Reached (r .receiver) × Hears before l r old new
+    → (f ≡ 0 → ⊥) → {r : Reply} → r ≡ record { receiver = before; answer = plainAnswer 0 0 f } → {new : List ℕ}
+    → new ≡ old → Reached (r .receiver) × Hears before l r old new
 not-heard k l old {f} e n q o = (
   rw q k,
   record {
@@ -455,8 +474,8 @@ not-heard k l old {f} e n q o = (
 )
 
 -- a refused report leaves all as it was
-module _ {before : Receiver} (k : Reached before) (l : Lent) {f : ℕ} (d : eqb f 0 ≡ false) {r : Reply} {old new : List ℕ}
-    (w : Works before f l r old new) where
+module _ {before : Receiver} (k : Reached before) (l : Lent) {f : ℕ} (d : eqb f 0 ≡ false) {r : Reply}
+    {old new : List ℕ} (w : Works before f l r old new) where
   abbrev joined : List Bool
   joined = after (reports (k .settings) (k .heard)) .assembly .joined
 
@@ -529,18 +548,22 @@ module _ {before : Receiver} (k : Reached before) (l : Lent) {f : ℕ} (d : eqb 
         assembly = record { run = e₃ i; bits = e₄ i; store = e₅ i };
       }
 
-  told-fault : Tells quiet false f (r .answer) old new
+  told-fault : Tells quiet false f (w .told) old new
   told-fault =
       let T : Verdict → Brought → Type 0 =
       λ v y. Tells (outcome-of (v .outcome) (y .fields) (broughtBits (w .x) (l .blocks)) (w .run .fields)
-      (joined ++ broughtBits (w .x) (l .blocks))) (v .dropped) (y .fault) (r .answer) old new in
+      (joined ++ broughtBits (w .x) (l .blocks))) (v .dropped) (y .fault) (w .told) old new in
       subst (λ (y : Brought). T (passed false) y) nothing-brought
       (subst (λ (v : Verdict). T v (w .x)) idle (w .tells joined store-on bits-on))
+
+  no-loss-told : w .loss ≡ no-loss
+  no-loss-told = w .loss-is ∙ rw idle refl
 
   left-alone : f ≡ refusedWith l old → Reached (r .receiver) × Hears before l r old new
   left-alone e =
       not-heard k l old e (eqb-false f 0 d)
-      (ap₂ (λ (x : Receiver) (y : Answer). record { receiver = x; answer = y }) kept-all (told-fault .answer))
+      (ap₂ (λ (x : Receiver) (y : Answer). record { receiver = x; answer = y }) kept-all
+      (w .answer-is ∙ ap₂ withLoss (told-fault .answer) no-loss-told))
       (told-fault .buffer ∙ handed-none old)
 
 replied-when : {before : Receiver} (k : Reached before) (l : Lent) (old : List ℕ) (f : ℕ) (d : Bool) → eqb f 0 ≡ d

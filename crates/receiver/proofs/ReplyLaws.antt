@@ -10,7 +10,7 @@ use Rattle.store.specs.Store.{handed}
 use Rattle.store.proofs.Stores.{store-inj}
 use Rattle.history.specs.Line.{Line}
 use Rattle.history.specs.Step as step
-use Rattle.history.specs.Step.{State, message-of, answer, after}
+use Rattle.history.specs.Step.{State, message-of, answer, after, lost-in}
 use Rattle.history.specs.declared.Place.{Place}
 use Rattle.reports.specs.Lent.{Lent, Event, heard, faultIn}
 use Rattle.reports.specs.declared.unit.Settings.{Settings}
@@ -57,7 +57,7 @@ replyFrom s t l =
     let a = answer t (reportOf s l) in
     record {
       receiver = receiverOf s (step.step t (reportOf s l));
-      answer = answerOf (a .outcome) (cond (a .dropped) 1 0) (faultIn l);
+      answer = answerOf (a .outcome) (cond (a .dropped) 1 0) (faultIn l) (lost-in t (a .dropped));
     }
 
 abbrev overFrom : Settings → State → Lent → List ℕ → List ℕ

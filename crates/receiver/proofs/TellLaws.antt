@@ -4,7 +4,7 @@ use mathlib.Core.Bool.{Bool, true, false, cond}
 use mathlib.Core.List.{List, [], _++_}
 use Prim.Native.Nat.{ℕ, zero, suc, _+_, _≤_}
 use native.Mathlib.Omega.{arith}
-use lib.ListN.{length, take, drop, length-append, length-drop}
+use lib.ListN.{length, drop, length-append, length-drop}
 use lib.Seq.{length-take-le}
 use Rattle.bits.specs.Bits.{bitsOf, bytesN, Inside}
 use Rattle.bits.proofs.Bytes.{length-bitsOf}
@@ -12,7 +12,9 @@ use Rattle.store.specs.Store.{storeOf, joinedTo, firstOver, messageBytes, hande
 use Rattle.store.proofs.Stores.{store-join}
 use Rattle.store.proofs.Messages.{handed-first}
 use Rattle.blocks.specs.declared.header.Fields.{Fields}
-use Rattle.history.specs.Step.{Outcome, single, joined, message-of, clears, joins, joined-after, outcome-of}
+use Rattle.history.specs.Slots.{no-loss}
+use Rattle.history.specs.Step.{Outcome, message-of, clears, joins, joined-after, outcome-of}
+use Rattle.history.specs.declared.Lost.{Lost}
 use Rattle.history.specs.declared.Act.{Act}
 use Rattle.history.specs.declared.Act.the-variants.{Stays, Ends, Opens, Takes}
 use Rattle.reports.specs.declared.read.Brought.{Brought}
@@ -94,7 +96,7 @@ hand-alone b old n h e = e ∙ rw (n, store-join [] b (omega (arith, n))) (hande
 
 pub plain-when : (n : ℕ) → (n ≡ 1 → ⊥) → (n ≡ 2 → ⊥) → n ≤ 5
     → (g : Fields) (b : List Bool) (joining : Fields) (m : List Bool) (dropped fault : ℕ)
-    → (plainAnswer n dropped fault ≡ answerOf (outcome-of n g b joining m) dropped fault)
+    → (plainAnswer n dropped fault ≡ answerOf (outcome-of n g b joining m) dropped fault no-loss)
     × (message-of (outcome-of n g b joining m) ≡ [])
 plain-when zero h k l g b joining m dropped fault = (refl, refl)
 plain-when (suc zero) h k l g b joining m dropped fault = absurd (h refl)
@@ -116,26 +118,26 @@ module _ (x : Brought) (blocks : List ℕ) (i : Inside (length blocks) (x .from)
 
   module _ {n d : ℕ} (dropped : Bool) (mark : d ≡ cond dropped 1 0) (old : List ℕ) {new : List ℕ} where
     pub single-tells : n ≡ 1 → x .bits ≤ 4096 → new ≡ firstOver (x .bits) (joinedTo (storeOf []) 0 b) old
-        → Tells (told n) dropped (x .fault)
-        (record { outcome = 1; dropped = d; fault = x .fault; bits = x .bits; fields = x .fields }) old new
-    single-tells e h w =
+        → {y : Lost} → y ≡ no-loss → Tells (told n) dropped (x .fault)
+        (record { outcome = 1; dropped = d; fault = x .fault; bits = x .bits; fields = x .fields; lost = y }) old new
+    single-tells e h w z =
         let l = length-brought x blocks i in
         rw e
         (record {
-          answer = rw (mark, l) refl;
+          answer = rw (mark, l, z) refl;
           buffer = hand-alone b old (sym l) h w;
         })
 
     pub joined-tells : n ≡ 2 → {store : List ℕ} {at : ℕ} → store ≡ storeOf j → at ≡ length j → at + x .bits ≤ 4096
-        → new ≡ firstOver (at + x .bits) (joinedTo store at b) old
+        → new ≡ firstOver (at + x .bits) (joinedTo store at b) old → {y : Lost} → y ≡ no-loss
         → Tells (told n) dropped (x .fault)
-        (record { outcome = 2; dropped = d; fault = x .fault; bits = at + x .bits; fields = joining }) old new
-    joined-tells e {store} {at} s a h w =
+        (record { outcome = 2; dropped = d; fault = x .fault; bits = at + x .bits; fields = joining; lost = y }) old new
+    joined-tells e {store} {at} s a h w z =
         let l = length-brought x blocks i in
         let k : at + x .bits ≡ length (j ++ b) = omega (arith, a, l, length-append j b) in
         rw e
         (record {
-          answer = rw (mark, k) refl;
+          answer = rw (mark, k, z) refl;
           buffer = hand-is j b old s a (sym l) h w;
         })
 
@@ -144,6 +146,6 @@ module _ (x : Brought) (blocks : List ℕ) (i : Inside (length blocks) (x .from)
     plain-tells h k l e w =
         let p = plain-when n h k l (x .fields) b joining (j ++ b) d (x .fault) in
         record {
-          answer = e ∙ p .0 ∙ ap (λ (m : ℕ). answerOf (told n) m (x .fault)) mark;
+          answer = e ∙ p .0 ∙ ap (λ (m : ℕ). answerOf (told n) m (x .fault) no-loss) mark;
           buffer = w ∙ rw (p .1) (sym (handed-none old));
         }

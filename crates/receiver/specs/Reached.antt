@@ -10,7 +10,7 @@ use Rattle.store.specs.Store.{storeOf, handed}
 use Rattle.blocks.specs.Faults.{firstOf}
 use Rattle.history.specs.Line.{Line, _▸_, each, Every}
 use Rattle.history.specs.Slots.{Report}
-use Rattle.history.specs.History.{History, Told, Drops}
+use Rattle.history.specs.History.{History, Told, Drops, LostTold}
 use Rattle.history.specs.Step.{after}
 use Rattle.history.specs.declared.Near.{Near}
 use Rattle.history.specs.declared.Nears.{Nears}
@@ -76,6 +76,7 @@ pub record Answered (s : Settings) (ls : Line Event) (l : Lent) (r : Reply) (old
   pub buffer : new ≡ handed message old
   pub dropped : (r .answer .dropped ≡ 1) ↔ Drops (reports s ls) (reportOf s l)
   pub mark : r .answer .dropped ≤ 1
+  pub lost : LostTold (reports s ls) (reportOf s l) (r .answer .lost)
   pub fault : r .answer .fault ≡ faultIn l
   pub receiver : r .receiver ≡ receiverAt s (ls ▸ l)
 

@@ -8,11 +8,12 @@ use Prim.Native.Nat.{ℕ, _+_, _≤_}
 use lib.ListN.{length, take, drop, replicate}
 use Rattle.bits.specs.Bits.{bitsOf, Inside}
 use Rattle.store.specs.Store.{storeOf, handed}
-use Rattle.history.specs.Slots.{no-fields}
+use Rattle.history.specs.Slots.{no-fields, no-loss}
 use Rattle.history.specs.Step as step
 use Rattle.history.specs.Step.{State, Outcome, number, message-of, fields-of, no-run, joined-after, outcome-of}
 use Rattle.blocks.specs.declared.header.Fields.{Fields}
 use Rattle.history.specs.declared.Place.{Place}
+use Rattle.history.specs.declared.Lost.{Lost}
 use Rattle.history.specs.declared.Act.{Act}
 use Rattle.history.specs.declared.Verdict.{Verdict}
 use Rattle.history.specs.declared.What.the-variants.{Nothing}
@@ -63,14 +64,33 @@ freshOf individual group mni =
 
 -- ---- The answer, in numbers.
 
-abbrev pub answerOf : Outcome → ℕ → ℕ → Answer
-answerOf o dropped fault =
-    record { outcome = number o; dropped = dropped; fault = fault; bits = length (message-of o); fields = fields-of o }
+abbrev pub answerOf : Outcome → ℕ → ℕ → Lost → Answer
+answerOf o dropped fault lost =
+    record {
+      outcome = number o;
+      dropped = dropped;
+      fault = fault;
+      bits = length (message-of o);
+      fields = fields-of o;
+      lost = lost;
+    }
 
--- One that hands nothing over.
+-- With this told of a loss.
+abbrev pub withLoss : Answer → Lost → Answer
+withLoss a lost =
+    record {
+      outcome = a .outcome;
+      dropped = a .dropped;
+      fault = a .fault;
+      bits = a .bits;
+      fields = a .fields;
+      lost = lost;
+    }
+
+-- One that hands nothing over, and tells of no loss.
 abbrev pub plainAnswer : ℕ → ℕ → ℕ → Answer
 plainAnswer outcome dropped fault =
-    record { outcome = outcome; dropped = dropped; fault = fault; bits = 0; fields = no-fields }
+    record { outcome = outcome; dropped = dropped; fault = fault; bits = 0; fields = no-fields; lost = no-loss }
 
 -- ---- What the code does with the bits: `j` are those joined so far, `at` their number, and the store holds them.
 
@@ -88,7 +108,7 @@ Stored act at b old new = (j : List Bool) → old ≡ storeOf j → at ≡ lengt
 
 -- The answer of this outcome, mark and fault, and the lent buffer before and after: the message is at its start.
 pub record Tells (o : Outcome) (dropped : Bool) (fault : ℕ) (r : Answer) (old new : List ℕ) : Type 0 where
-  pub answer : r ≡ answerOf o (cond dropped 1 0) fault
+  pub answer : r ≡ answerOf o (cond dropped 1 0) fault no-loss
   pub buffer : new ≡ handed (message-of o) old
 
 -- The answer to a report that is judged; `joining` are the fields of the open run's header.

@@ -12,7 +12,9 @@ ghost use Rattle.reports.specs.Turns.{follows};
 ghost use Rattle.receiver.specs.Reached.{refusedWith, Reached, Hears};
 ghost use Rattle.receiver.specs.View.{noPlace, Brings, newWith, freshOf};
 use crate::answer::Answer;
+use crate::answer::lost_of;
 use crate::answer::told;
+use crate::answer::with_loss;
 use crate::assembly::Assembly;
 use crate::assembly::bits_after;
 use crate::assembly::older_number;
@@ -147,10 +149,12 @@ impl Receiver {
         }
     }
 
-    // The reply to a report that is refused for `fault`, or accepted where that is 0: it is read and judged, the answer is
-    // told, and then the record is put together in one place. To a refused one no time has gone by, and it brings nothing.
+    // The reply to a report that is refused for `fault`, or accepted where that is 0: it is read and judged, the answer
+    // is told, and then the record is put together in one place. To a refused one no time has gone by, and it brings
+    // nothing. What is lost is told of the assembly as it was before the report.
     fn reply(self, fault: u8, q: Place, kind: u8, blocks: &[u8], message: &mut [u8]) -> Reply
-        requires { ⌜ Reached self × (fault ≡ refusedWith (lent (q .frame) (q .slot) kind (now blocks)) (now message)) ⌝ }
+        requires { ⌜ Reached self
+            × (fault ≡ refusedWith (lent (q .frame) (q .slot) kind (now blocks)) (now message)) ⌝ }
         ensures { λ r. ⌜ Reached (r .receiver)
             × Hears self (lent (q .frame) (q .slot) kind (now (blocks .entry))) r
             (now (message .entry)) (now (message .exit)) ⌝ }
@@ -165,7 +169,8 @@ impl Receiver {
         let before = self.near.places;
         let mut places = older_places(turn, before);
         let known = older_number(turn, self.near.count);
-        let bits = older_number(turn, self.assembly.bits);
+        let joined = self.assembly.bits;
+        let bits = older_number(turn, joined);
         let mut store = self.assembly.older_store(turn);
         let x = heard(fault, settings, q, kind, blocks);
         let v = judge(x, run, &places, known, tick, lost);
@@ -176,6 +181,7 @@ impl Receiver {
         let over = ending(fault, q);
         let left = fall(over, &mut places, known);
         let count = keep(v.near, over, x, &mut places, left);
+        let loss = lost_of(v.dropped, own.fields.source.ssi, own.fields.message, joined);
         Reply {
             receiver: Receiver {
                 settings,
@@ -187,7 +193,7 @@ impl Receiver {
                     store,
                 },
             },
-            answer,
+            answer: with_loss(answer, loss),
         }
     }
 

@@ -7,6 +7,7 @@ ghost use Rattle.reports.specs.Reading.{headless, Reads};
 use crate::report::Kind;
 use crate::unit::Settings;
 use blocks::continuation::read_continuation;
+use blocks::header::Address;
 use blocks::header::Fields;
 use blocks::header::no_fields;
 use blocks::header::read_reported;
@@ -28,6 +29,26 @@ pub struct Brought {
     pub countdown: u8,
     pub from: usize,
     pub bits: usize,
+}
+
+// The same fields, one by one: the bytes between them are not carried along (docs/DECISIONS.md, 94).
+pub(crate) fn same_fields(g: Fields) -> Fields
+    ensures { λ r. ⌜ r ≡ g ⌝ }
+{
+    Fields {
+        destination: Address {
+            kind: g.destination.kind,
+            ssi: g.destination.ssi,
+        },
+        source: Address {
+            kind: g.source.kind,
+            ssi: g.source.ssi,
+        },
+        mni: g.mni,
+        message: g.message,
+        width: g.width,
+        elements: g.elements,
+    }
 }
 
 // One without a header.
@@ -69,7 +90,7 @@ fn header(settings: Settings, q: Place, blocks: &[u8]) -> Brought
         fault: 0,
         meant: settings.meant(fields),
         raw: store::without_two(h, 12 + 4 * (x.fragmented as usize)),
-        fields,
+        fields: same_fields(fields),
         more: x.count - x.fragmented,
         countdown: x.countdown,
         from: SchS::BYTES * 8 + x.first,

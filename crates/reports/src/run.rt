@@ -5,6 +5,7 @@ ghost use Rattle.history.specs.Step.{no-run, older-run, broken-off, is-due, rep
 ghost use Rattle.history.specs.Step.{run-after};
 use crate::place::wane;
 use crate::read::Brought;
+use crate::read::same_fields;
 use blocks::header::no_fields;
 use history::Act;
 use history::Open;
@@ -34,9 +35,18 @@ pub fn older_run(turn: bool, q: Place, a: Open) -> Open
     if !turn {
         return no_run();
     }
-    let mut o = a;
-    o.again = wane(q, a.again);
-    o
+    let fields = a.fields;
+    let raw = a.raw;
+    Open {
+        fields: same_fields(fields),
+        raw,
+        held: a.held,
+        again: wane(q, a.again),
+        more: a.more,
+        frame: a.frame,
+        countdown: a.countdown,
+        kept: a.kept,
+    }
 }
 
 // Whether slot `q` is due for its next block.

@@ -5,7 +5,7 @@ use Prim.Native.Nat.{ℕ, zero, suc}
 use lib.ListN.{length, drop}
 use Rattle.blocks.specs.Faults.{firstOf}
 use Rattle.history.specs.Line.{Line, start, _▸_}
-use Rattle.history.specs.Step.{outcome-at, dropped-at}
+use Rattle.history.specs.Step.{outcome-at, dropped-at, loss-at}
 use Rattle.reports.specs.Lent.{Lent, Event, reportRules, faultIn}
 use Rattle.reports.specs.declared.unit.Settings.{Settings}
 use Rattle.receiver.specs.View.{plainAnswer, answerOf}
@@ -24,6 +24,7 @@ answerWhen zero s ls l =
     (outcome-at (reports s ls) (reportOf s l))
     (cond (dropped-at (reports s ls) (reportOf s l)) 1 0)
     (faultIn l)
+    (loss-at (reports s ls) (reportOf s l))
 answerWhen (suc n) s ls l = plainAnswer 0 0 (suc n)
 
 abbrev pub heardWhen : ℕ → Line Event → Lent → Line Event

@@ -1,16 +1,15 @@
 //! The fixed sheet of reports: a slot log over every rule of the receiver, for one unit.
 
+use super::drops::{put_fault, put_first_header, put_header, Change, WAYS};
 use super::logs::{after, draw_message, episodes, for_another, for_this_unit};
 use super::logs::{headers_in, merge, push, send, Slot};
-use super::parts::{damage_continuation, draw_continuation, record};
+use super::parts::{draw_continuation, fields_of, record};
 use super::parts::{Message, Raw, Unit, HEADER_FAULTS};
 use super::records;
 use super::rng::Rng;
 use crate::blocks::{header_bits, HEADER_BYTES, SCH_F_BYTES};
 use crate::layout::{BLOCK_ROOM, COUNT_WIDTH, HEADER_ROOM};
-
-/// A change at one report of a run: what is put there, or before it, or after it.
-type Change = fn(&mut Rng, &Unit, &mut Vec<Slot>, usize);
+use crate::transport::{DM_SDS_ACK, DM_SDS_DATA, DM_SDS_UDATA};
 
 /// The sheet as far as it is written.
 struct Sheet {
@@ -33,6 +32,7 @@ pub fn slots() -> Vec<u8> {
     sheet.records.push(sheet.unit.record());
     sheet.every_run();
     sheet.every_change();
+    sheet.every_drop();
     sheet.every_countdown();
     sheet.every_copy();
     sheet.every_two_in_turn();
@@ -56,7 +56,23 @@ impl Sheet {
 
     /// A fragmented message for this unit of so many blocks.
     fn message(&mut self, blocks: usize) -> Message {
-        let mut message = for_this_unit(&mut self.rng, &self.unit, true);
+        let message = for_this_unit(&mut self.rng, &self.unit, true);
+        self.with_blocks(message, blocks)
+    }
+
+    fn message_of(&mut self, message_type: u64, blocks: usize) -> Message {
+        let mut fields = fields_of(&mut self.rng, message_type, 0);
+        fields.dest = self.rng.pick(&[self.unit.individual, self.unit.group]);
+        fields.mni = self.unit.mni;
+        let message = Message {
+            fields,
+            bits: Vec::new(),
+            filled: None,
+        };
+        self.with_blocks(message, blocks)
+    }
+
+    fn with_blocks(&mut self, mut message: Message, blocks: usize) -> Message {
         let head = HEADER_ROOM - COUNT_WIDTH - header_bits(&message.fields);
         let last = self.rng.index(BLOCK_ROOM - 4) + 5;
         message.bits = self.rng.bits(head + (blocks - 1) * BLOCK_ROOM + last);
@@ -93,6 +109,30 @@ impl Sheet {
                     self.tell(&run);
                 }
             }
+        }
+    }
+
+    /// Every way of being dropped, at every due slot of a message of one block and of three: a DM-SDS
+    /// DATA, a DM-SDS ACK, and one that is not told of when it is lost. Then each is handed over, with
+    /// all its repeats.
+    fn every_drop(&mut self) {
+        let mut x = 0;
+        for message_type in [DM_SDS_DATA, DM_SDS_ACK, DM_SDS_UDATA] {
+            let changes = WAYS
+                .iter()
+                .flat_map(|way| way.changes.iter().map(move |change| (way, change)));
+            for (way, change) in changes {
+                for (blocks, i) in [(1, 0), (3, 0), (3, 1), (3, 2)] {
+                    x = x % 18 + 1;
+                    let mut run = send(&self.message_of(message_type, blocks), x, x % 2);
+                    if let Some(&at) = way.due_slots(&run).get(i) {
+                        change(&mut self.rng, &self.unit, &mut run, at);
+                        self.tell(&run);
+                    }
+                }
+            }
+            let whole = send(&self.message_of(message_type, 3), x, 3);
+            self.tell(&whole);
         }
     }
 
@@ -313,22 +353,6 @@ fn once_and_again(messages: &[Message], place: (u8, u8), again: usize) -> Vec<Sl
     slots
 }
 
-/// Puts a header of another message into a slot.
-fn put_header(rng: &mut Rng, unit: &Unit, slot: &mut Slot, ours: bool, fragmented: bool) {
-    let message = draw_message(rng, unit, ours, fragmented);
-    let countdown = rng.below(4) as u8;
-    let header = message.blocks(slot.frame, slot.slot, countdown).remove(0);
-    slot.put(2, header);
-}
-
-/// A block where there is none, or the one that is there, with this fault.
-fn put_fault(rng: &mut Rng, slot: &mut Slot, fault: u8) {
-    if slot.kind != 3 {
-        slot.put(3, draw_continuation(rng, true));
-    }
-    damage_continuation(rng, &mut slot.blocks, fault);
-}
-
 /// What can go wrong, or seem to, at a report of a run.
 const CHANGES: [Change; 22] = [
     |_, _, run, at| run[at].put(1, Vec::new()),
@@ -345,14 +369,7 @@ const CHANGES: [Change; 22] = [
         put_header(rng, unit, &mut run[at], true, true);
         run[at].blocks[HEADER_BYTES - 1] |= 1;
     },
-    // The run's own header once more, as it was.
-    |_, _, run, at| {
-        if let Some(mut raw) = Raw::of(&run[0].blocks) {
-            raw.sch_s.frame = run[at].frame.into();
-            raw.sch_s.slot = u64::from(run[at].slot) - 1;
-            run[at].put(2, raw.bytes());
-        }
-    },
+    |_, _, run, at| put_first_header(run, at),
     // No message bits, or one bit of fill.
     |_, _, run, at| {
         let last = run[at].blocks.first().map_or(0x20, |byte| byte & 0x20);
@@ -423,8 +440,11 @@ const COPIES: [Change; 12] = [
 
 #[cfg(test)]
 mod tests {
+    use super::super::answers::{answered, drops};
     use super::*;
+    use crate::blocks::NO_ADDRESS;
     use crate::log::print;
+    use std::collections::BTreeSet;
 
     #[test]
     fn every_answer_is_there() {
@@ -440,5 +460,25 @@ mod tests {
         faults.into_iter().for_each(|fault| column(4, fault));
         assert!(lines.contains("\nkind\n"));
         assert!(lines.ends_with("\ncut\n"));
+    }
+
+    /// With no block kept and with some, and with the source absent.
+    #[test]
+    fn every_drop_is_there() {
+        let sheet = slots();
+        let lines = print(&sheet);
+        let (mut found, mut absent) = (BTreeSet::new(), BTreeSet::new());
+        for dropped in drops(&answered(&sheet, &lines, true)) {
+            let fields = &dropped.header.fields;
+            found.insert((dropped.way, fields.message_type, dropped.kept > 0));
+            absent.extend((fields.source_type == NO_ADDRESS).then_some(fields.message_type));
+        }
+        for message_type in [DM_SDS_DATA, DM_SDS_ACK, DM_SDS_UDATA] {
+            for (way, kept) in WAYS.iter().flat_map(|way| [(way, false), (way, true)]) {
+                let wanted = (way.name, message_type, kept);
+                assert!(found.contains(&wanted), "{wanted:?}");
+            }
+            assert!(absent.contains(&message_type), "{message_type}");
+        }
     }
 }

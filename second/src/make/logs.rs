@@ -1,10 +1,11 @@
 //! Random slot logs: messages in their slots with their repeats, one by one and several in turn, then mutated.
 
+use super::drops::drop_it;
 use super::parts::{damage_continuation, draw_continuation, record};
 use super::parts::{Message, Raw, Unit, HEADER_FAULTS};
 use super::records;
 use super::rng::Rng;
-use crate::blocks::{header_bits, NO_ADDRESS};
+use crate::blocks::{header_bits, ADDRESS, NO_ADDRESS};
 use crate::layout::{due_frame, next_frame, BLOCK_ROOM, COUNT_WIDTH, HEADER_ROOM};
 
 /// A report to be written. `due`: a continuation block was sent here.
@@ -163,7 +164,7 @@ fn idle(rng: &mut Rng, slots: &mut Vec<Slot>, mut place: (u8, u8)) -> (u8, u8) {
 /// One message in its slots, or several in turn.
 fn draw_run(rng: &mut Rng, unit: &Unit, x: u8) -> Vec<Slot> {
     let f = rng.below(4) as u8;
-    match rng.below(24) {
+    match rng.below(32) {
         0 => longest(rng, unit, x),
         1..=9 => send(&for_this_unit(rng, unit, true), x, f),
         10..=14 => send(&for_this_unit(rng, unit, false), x, f),
@@ -171,8 +172,16 @@ fn draw_run(rng: &mut Rng, unit: &Unit, x: u8) -> Vec<Slot> {
         16 => send(&for_another(rng, unit, false), x, f),
         17 => send_twice(&for_this_unit(rng, unit, true), x, f),
         18..=22 => in_turn(rng, unit, x),
-        _ => crowd(rng, unit, x),
+        23 | 24 => crowd(rng, unit, x),
+        _ => dropped(rng, unit, x, f),
     }
+}
+
+/// A message of several blocks whose assembly is dropped.
+fn dropped(rng: &mut Rng, unit: &Unit, x: u8, f: u8) -> Vec<Slot> {
+    let mut run = send(&for_this_unit(rng, unit, true), x, f);
+    drop_it(rng, unit, &mut run);
+    run
 }
 
 /// Two or three senders, slot by slot, each with a countdown of its own. Where more than one is
@@ -324,7 +333,12 @@ pub fn for_another(rng: &mut Rng, unit: &Unit, fragmented: bool) -> Message {
         0 => fields.dest ^= 1 << rng.below(24),
         1 => fields.mni ^= 1 << rng.below(24),
         2 => fields.dest_type = 1,
-        _ => (fields.dest_type, fields.dest) = (NO_ADDRESS, 0),
+        _ => {
+            (fields.dest_type, fields.dest) = (NO_ADDRESS, 0);
+            // The header has room for so many bits more.
+            let more = if fragmented { ADDRESS } else { 0 };
+            message.bits.extend(rng.bits(more));
+        }
     }
     message
 }

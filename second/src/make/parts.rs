@@ -6,6 +6,7 @@ use crate::blocks::{build, header_bits, read_header, sch_h, sch_s, Fields, SchH,
 use crate::blocks::{HEADER_BYTES, NO_ADDRESS, RESERVED_ADDRESS, SCH_F_BYTES, SCH_S_BYTES};
 use crate::layout::{self, BLOCK_ROOM, HEADER_ROOM};
 use crate::messages;
+use crate::transport::{DM_SDS_ACK, DM_SDS_DATA};
 
 /// The header's checks, in their order, but for fault 1.
 pub const HEADER_FAULTS: [u8; 11] = [2, 3, 4, 5, 6, 7, 18, 10, 8, 9, 11];
@@ -158,18 +159,23 @@ pub fn lengths(h: usize) -> Vec<usize> {
         .collect()
 }
 
-/// A message to be sent: its fields, but for frame, slot and countdown, and its bits.
+/// A message to be sent: its fields, but for frame, slot and countdown, and its bits. `filled`: of
+/// its part in a fragmented header so many bits are there, and the rest is fill.
 #[derive(Clone)]
 pub struct Message {
     pub fields: Fields,
     pub bits: Vec<bool>,
+    pub filled: Option<usize>,
 }
 
 impl Message {
     /// A message that a build takes, of one header or of several blocks.
     pub fn draw(rng: &mut Rng, fragmented: bool) -> Message {
         loop {
-            let fields = draw_fields(rng);
+            let fields = match fragmented {
+                true => draw_long_fields(rng),
+                false => draw_fields(rng),
+            };
             let h = header_bits(&fields);
             if h + 4 <= HEADER_ROOM {
                 let n = if fragmented {
@@ -178,7 +184,14 @@ impl Message {
                     rng.index(HEADER_ROOM - h + 1)
                 };
                 let bits = rng.bits(n);
-                return Message { fields, bits };
+                // Now and then a fragmented header has fill: a few bits are there, or none.
+                let room = HEADER_ROOM - layout::COUNT_WIDTH - h;
+                let filled = fragmented && room > 0 && rng.chance(10);
+                return Message {
+                    fields,
+                    bits,
+                    filled: filled.then(|| rng.index(room) * rng.index(2)),
+                };
             }
         }
     }
@@ -192,13 +205,32 @@ impl Message {
             ..self.fields.clone()
         };
         let built = build(&fields, self.bits.len() as u64, &pack(&self.bits), 1024);
-        let bytes = built.expect("a made message can be built").bytes;
-        let (header, blocks) = bytes.split_at(HEADER_BYTES);
-        let header = std::iter::once(header.to_vec());
-        header
-            .chain(blocks.chunks(SCH_F_BYTES).map(<[u8]>::to_vec))
-            .collect()
+        let built = built.expect("a made message can be built");
+        let (header, blocks) = built.bytes.split_at(HEADER_BYTES);
+        let header = match self.filled {
+            Some(there) => {
+                let sch_h = sch_h(&fields, &self.bits[..there], built.k).block();
+                [&header[..SCH_S_BYTES], &sch_h].concat()
+            }
+            None => header.to_vec(),
+        };
+        let blocks = blocks.chunks(SCH_F_BYTES).map(<[u8]>::to_vec);
+        std::iter::once(header).chain(blocks).collect()
     }
+}
+
+/// Fields of a message of several blocks: half of them are a DM-SDS DATA or a DM-SDS ACK, which are
+/// told of when they are lost. Now and then the source is at an end of its range.
+fn draw_long_fields(rng: &mut Rng) -> Fields {
+    let mut fields = match rng.below(4) {
+        0 => fields_of(rng, DM_SDS_DATA, 0),
+        1 => fields_of(rng, DM_SDS_ACK, 0),
+        _ => draw_fields(rng),
+    };
+    if fields.source_type != NO_ADDRESS {
+        fields.source = draw_address(rng);
+    }
+    fields
 }
 
 /// A number of bits that takes blocks, mostly few of them, now and then at a block's edge.

@@ -1,14 +1,19 @@
-//! How often each answer comes in the made inputs of a range of seeds.
+//! How often each answer comes in the made inputs of a range of seeds, and each way of being dropped.
 
+use super::answers::{answered, drops, Answered};
+use super::drops::WAYS;
 use super::{calls, log, reports, transport};
-use crate::blocks::{read_header, SCH_S_BYTES};
-use crate::log::{print, Record, Records};
+use crate::log::print;
 use crate::probe::probe;
+use crate::transport::{DM_SDS_ACK, DM_SDS_DATA};
 use std::collections::{BTreeMap, BTreeSet};
 use std::fmt::Write;
 
-/// Counts by what is counted, for the logs and for each sort of call.
-type Counts = BTreeMap<String, [u64; COLUMNS.len()]>;
+/// Counts by what is counted, in columns.
+type Table<const N: usize> = BTreeMap<String, [u64; N]>;
+
+/// For the logs and for each sort of call.
+type Counts = Table<{ COLUMNS.len() }>;
 
 const COLUMNS: [&str; 10] = [
     "log",
@@ -23,25 +28,42 @@ const COLUMNS: [&str; 10] = [
     "book",
 ];
 
+/// Drops for the logs and for the reports of calls, by the dropped message's type.
+type Drops = Table<{ DROP_COLUMNS.len() }>;
+
+const DROP_COLUMNS: [&str; 6] = [
+    "log 23",
+    "log 24",
+    "others",
+    "report 23",
+    "report 24",
+    "others",
+];
+
 /// Makes and runs the logs, the call files, the reports and the transport calls of these seeds.
 pub fn stats(from: u64, to: u64) -> String {
-    let mut counts = rows();
+    let (mut counts, mut dropped) = (rows(), drop_rows());
     for seed in from..=to {
         let given = log(seed);
         let printed = print(&given);
         for line in printed.lines() {
             count_log_line(&mut counts, line);
         }
-        count_copies(&mut counts, 0, Records::new(&given).skip(1), &printed);
+        let answers = answered(&given, &printed, true);
+        count_copies(&mut counts, 0, &answers);
+        count_drops(&mut dropped, 0, &answers);
         for given in [calls(seed), reports(seed), transport(seed)] {
             let printed = probe(&given);
             for line in printed.lines() {
                 count_call_line(&mut counts, line);
             }
-            count_copies(&mut counts, 1, Records::new(&given), &printed);
+            let answers = answered(&given, &printed, false);
+            count_copies(&mut counts, 1, &answers);
+            count_drops(&mut dropped, 1, &answers);
         }
     }
-    table(&counts)
+    let counts = table("", COLUMNS, &counts);
+    counts + "\n" + &table("dropped by", DROP_COLUMNS, &dropped)
 }
 
 /// Every row, so that one that never comes is seen.
@@ -82,8 +104,8 @@ fn past_row(others: usize) -> String {
     format!("copy past {others}")
 }
 
-fn add(counts: &mut Counts, name: String, column: usize) {
-    counts.entry(name).or_default()[column] += 1;
+fn add<const N: usize>(counts: &mut Table<N>, name: String, column: usize) {
+    counts.entry(name).or_insert([0; N])[column] += 1;
 }
 
 fn count_log_line(counts: &mut Counts, line: &str) {
@@ -131,28 +153,18 @@ fn count_call_line(counts: &mut Counts, line: &str) {
 type Sent = (Vec<bool>, u64);
 
 /// Counts the copies by how many other headers for this unit, repeats apart, came since the one
-/// that each repeats. Each record has its line.
-fn count_copies<'a>(
-    counts: &mut Counts,
-    column: usize,
-    records: impl Iterator<Item = Record<'a>>,
-    lines: &str,
-) {
+/// that each repeats.
+fn count_copies(counts: &mut Counts, column: usize, reports: &[Answered]) {
     let mut heard: Vec<Sent> = Vec::new();
     let mut frames = 0;
-    for (record, line) in records.zip(lines.lines()) {
-        let (Record::Whole(kind, body), Some(outcome)) = (record, accepted(line)) else {
-            continue;
-        };
-        frames += u64::from(body[1] == 1);
-        if !["1", "3", "5"].contains(&outcome) {
+    for report in reports {
+        frames += u64::from(report.place.1 == 1);
+        if !["1", "3", "5"].contains(&report.outcome) {
             continue;
         }
-        // The blocks of a log's report stand after frame and slot, those of a call's after five bytes.
-        let blocks = &body[if kind == 4 { 5 } else { 2 }..];
-        if let Ok(header) = read_header(&blocks[..SCH_S_BYTES], &blocks[SCH_S_BYTES..], None) {
+        if let Some(header) = report.header() {
             let sent = (header.but_for_countdown(), frames + header.fields.countdown);
-            if outcome == "5" {
+            if report.outcome == "5" {
                 let since = heard.iter().rev().take_while(|&other| *other != sent);
                 let others: BTreeSet<&Sent> = since.collect();
                 add(counts, past_row(others.len()), column);
@@ -162,21 +174,43 @@ fn count_copies<'a>(
     }
 }
 
-/// The outcome of a report that was not refused.
-fn accepted(line: &str) -> Option<&str> {
-    let words: Vec<&str> = line.split(' ').collect();
-    let (outcome, fault) = match words[..] {
-        ["report", outcome, _, fault, ..] => (outcome, fault),
-        [_, _, outcome, _, fault, _] => (outcome, fault),
-        _ => return None,
-    };
-    let refused = ["15", "16", "1", "17"].contains(&fault);
-    (!refused).then_some(outcome)
+/// What is counted of drops beside their way.
+const NO_BITS: &str = "with 0 bits";
+const NO_BLOCKS: &str = "with 0 blocks";
+const NO_SOURCE: &str = "with source 0";
+
+fn drop_rows() -> Drops {
+    let ways = WAYS.map(|way| way.name).into_iter();
+    let names = ways.chain([NO_BITS, NO_BLOCKS, NO_SOURCE]);
+    names
+        .map(|name| (name.to_string(), [0; DROP_COLUMNS.len()]))
+        .collect()
 }
 
-fn table(counts: &Counts) -> String {
-    let mut table = format!("{:14}", "");
-    for column in COLUMNS {
+/// Counts the drops of the logs (0) or of the calls (1).
+fn count_drops(counts: &mut Drops, sort: usize, reports: &[Answered]) {
+    for dropped in drops(reports) {
+        let column = 3 * sort
+            + match dropped.header.fields.message_type {
+                DM_SDS_DATA => 0,
+                DM_SDS_ACK => 1,
+                _ => 2,
+            };
+        let also = [
+            (NO_BITS, dropped.bits == 0),
+            (NO_BLOCKS, dropped.kept == 0),
+            (NO_SOURCE, dropped.header.fields.source == 0),
+        ];
+        let also = also.iter().filter(|(_, is_so)| *is_so);
+        for name in also.map(|(name, _)| *name).chain([dropped.way]) {
+            add(counts, name.to_string(), column);
+        }
+    }
+}
+
+fn table<const N: usize>(corner: &str, columns: [&str; N], counts: &Table<N>) -> String {
+    let mut table = format!("{corner:14}");
+    for column in columns {
         let _ = write!(table, "{column:>10}");
     }
     table.push('\n');
@@ -196,11 +230,43 @@ mod tests {
 
     #[test]
     fn every_answer_comes() {
-        for row in stats(1, 60).lines().skip(1) {
+        let tables = stats(1, 60);
+        let (answers, drops) = tables.split_once("\n\n").unwrap();
+        let counts = |row: &str| -> Vec<u64> {
             let counts = row[14..].split_whitespace();
-            let total: u64 = counts.map(|count| count.parse::<u64>().unwrap()).sum();
-            assert!(total > 0, "{row}");
+            counts.map(|count| count.parse().unwrap()).collect()
+        };
+        for row in answers.lines().skip(1) {
+            assert!(counts(row).iter().any(|&count| count > 0), "{row}");
         }
+        assert_eq!(drops.lines().count(), 1 + 8 + 3);
+        for row in drops.lines().skip(1) {
+            assert!(counts(row).iter().all(|&count| count > 2), "{row}");
+        }
+    }
+
+    /// A line tells of what was dropped as the reports before it have it, if it is one of the two
+    /// types, and of nothing where nothing was dropped.
+    #[test]
+    fn lost_ones_are_told_of() {
+        let mut told = BTreeSet::new();
+        for seed in 1..=20 {
+            let (given, zeros) = (reports(seed), [0, 0, 0]);
+            let printed = probe(&given);
+            let mut dropped = drops(&answered(&given, &printed, false)).into_iter();
+            for line in printed.lines().filter(|line| line.starts_with("report ")) {
+                let words: Vec<&str> = line.split(' ').collect();
+                let ended = (words[2] == "1").then(|| dropped.next().unwrap());
+                let lost = ended.map_or(zeros, |ended| match ended.header.fields.message_type {
+                    number @ 23..=24 => [ended.header.fields.source, number, ended.bits as u64],
+                    _ => zeros,
+                });
+                assert_eq!(words[15..], lost.map(|number| number.to_string()), "{line}");
+                told.insert(lost[1]);
+            }
+            assert!(dropped.next().is_none());
+        }
+        assert_eq!(told, BTreeSet::from([0, 23, 24]));
     }
 
     /// The transport calls alone: every answer of theirs, and most reads are taken or nearly.
@@ -237,9 +303,9 @@ mod tests {
     #[test]
     fn copies_with_others_between_come() {
         let mut counts = Counts::new();
-        for seed in 1..=20 {
+        for seed in 1..=30 {
             let given = reports(seed);
-            count_copies(&mut counts, 1, Records::new(&given), &probe(&given));
+            count_copies(&mut counts, 1, &answered(&given, &probe(&given), false));
         }
         let count = |others| counts.get(&past_row(others)).map_or(0, |row| row[1]);
         assert!(count(0) > 300 && count(1) > 60, "{counts:?}");

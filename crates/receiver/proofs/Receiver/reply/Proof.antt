@@ -101,11 +101,14 @@ told-requires c κs = (
 )
 
 slice-aggregate-store-after : tie.Need-slice-aggregate-store-after
-slice-aggregate-store-after c = search needs
+slice-aggregate-store-after c =
+    let x = c .before .before .before .before .before .before .before .before .before in
+    search (needs, x .before .older-store)
 
 store-after-requires : tie.Need-store-after-requires
 store-after-requires c κs = (
-  search needs,
+  let x = c .before .before .before .before .before .before .before .before .before in
+      search (needs, x .before .older-store),
   let x = c .before .before .before .before .before .before .before .before .before in
       let o = x .before .before in
       let f = o .before .before .before .before .before .before .before .before in
@@ -168,12 +171,15 @@ keep-requires c κs = (
   search needs,
 )
 
+lost-of-requires : tie.Need-lost-of-requires
+lost-of-requires c κs = search needs
+
 standing-requires : tie.Need-standing-requires
 standing-requires c κs = search needs
 
 run-after-requires : tie.Need-run-after-requires
 run-after-requires c κs =
-    let h = c .before .before .before .before .before .before .before .before .before in
+    let h = c .before .before .before .before .before .before .before .before .before .before in
     let x = h .before .before .before .before .before .before .before .before .before .before in
     let r = x .before .before .before .before .before .before in
     let k = r .before .before .before in
@@ -184,23 +190,28 @@ run-after-requires c κs =
 
 bits-after-requires : tie.Need-bits-after-requires
 bits-after-requires c κs =
-    let h = c .before .before .before .before .before .before .before .before .before .before in
+    let h = c .before .before .before .before .before .before .before .before .before .before .before in
     let x = h .before .before .before .before .before .before .before .before .before .before in
     let o = x .before .before in
     let f = o .before .before .before .before .before .before .before .before in
     let g = f .before .before .before .before .before in
     omega (arith, bits-small (g .pre .0) (f .in-turn .result) (o .older-number2 .ensures), x .heard .ensures .few)
 
+with-loss-requires : tie.Need-with-loss-requires
+with-loss-requires c κs = search needs
+
 same-length : tie.Need-same-length
 same-length c =
-    let h = c .before .before .before .before .before .before .before in
+    let h = c .before .before .before .before .before .before .before .before .before in
     let m = h .before .before .before .before .before .before .before in
     search (needs, m .message)
 
 returns : tie.Need-returns
 returns c =
-    let s = c .before .before in
-    let h = s .before .before in
+    let r = c .before .before in
+    let s = r .before in
+    let b = s .before in
+    let h = b .before .before in
     let w = h .before .before .before in
     let y = w .before .before in
     let d = y .before .before in
@@ -211,8 +222,8 @@ returns c =
     let o = z .before in
     let n = o .before in
     let p = n .before in
-    let r = p .before .before in
-    let l = r .before in
+    let o′ = p .before .before in
+    let l = o′ .before in
     let k = l .before .before in
     let f = k .before in
     let g = f .before .before .before .before .before in
@@ -222,20 +233,22 @@ returns c =
       turn = f .in-turn .result;
       tick = k .ticking .result;
       lost = l .broken-off .result;
-      run = r .older-run .result;
+      run = o′ .older-run .result;
       known = n .older-number .result;
       places = p .older-places .result;
       bits = o .older-number2 .result;
       store = z .older-store .result;
       x = x .heard .result;
       v = v .judge .result;
+      told = t .told .result;
       over = y .ending .result;
       left = w .fall .result;
       fallen = _;
+      loss = b .lost-of .result;
       turn-is = f .in-turn .ensures;
       tick-is = k .ticking .ensures;
       lost-is = l .broken-off .ensures;
-      run-is = r .older-run .ensures;
+      run-is = o′ .older-run .ensures;
       known-is = n .older-number .ensures;
       places-is = p .older-places .ensures;
       bits-is = o .older-number2 .ensures;
@@ -243,13 +256,15 @@ returns c =
       brings = x .heard .ensures;
       judges = v .judge .ensures;
       tells = t .told .ensures;
+      answer-is = c .with-loss .ensures;
+      loss-is = b .lost-of .ensures;
       settings-after = refl;
       place-after = s .standing .ensures;
       over-is = y .ending .ensures;
       falls = w .fall .ensures;
       keeps = h .keep .ensures;
-      run-after = c .before .run-after .ensures;
-      bits-after = c .bits-after .ensures;
+      run-after = r .run-after .ensures;
+      bits-after = c .before .bits-after .ensures;
       store-after = d .store-after .ensures;
     })
 
@@ -277,8 +292,10 @@ reply-spec =
     fall-requires
     slice-aggregate-keep
     keep-requires
+    lost-of-requires
     standing-requires
     run-after-requires
     bits-after-requires
+    with-loss-requires
     same-length
     returns)

@@ -57,41 +57,47 @@ without-two-requires c κs =
     (c .before .before .before .before .before .if1 .left) (r .before .before .before .before .pre) in
     search needs
 
-sub-t19 : tie.Need-sub-t19
-sub-t19 c =
-    let r = c .before .before .before .before .before .before .before .before .before in
-    let a = r .before .before .before .before .args in
-    let f =
-    counted (a .settings) (a .q .frame) (a .q .slot) (a .blocks .now) (r .read-reported .ensures)
-    (c .before .before .before .before .before .before .before .if1 .left) (r .before .before .before .before .pre) in
-    omega arith
+same-fields-requires : tie.Need-same-fields-requires
+same-fields-requires c κs = search needs
 
-mul-t20 : tie.Need-mul-t20
-mul-t20 c = search needs
-
-add-t21 : tie.Need-add-t21
-add-t21 c =
+sub-t20 : tie.Need-sub-t20
+sub-t20 c =
     let r = c .before .before .before .before .before .before .before .before .before .before in
     let a = r .before .before .before .before .args in
     let f =
-    first-small (a .settings) (a .q .frame) (a .q .slot) (a .blocks .now) (r .read-reported .ensures)
+    counted (a .settings) (a .q .frame) (a .q .slot) (a .blocks .now) (r .read-reported .ensures)
     (c .before .before .before .before .before .before .before .before .if1 .left)
+    (r .before .before .before .before .pre) in
+    omega arith
+
+mul-t21 : tie.Need-mul-t21
+mul-t21 c = search needs
+
+add-t22 : tie.Need-add-t22
+add-t22 c =
+    let r = c .before .before .before .before .before .before .before .before .before .before .before in
+    let a = r .before .before .before .before .args in
+    let f =
+    first-small (a .settings) (a .q .frame) (a .q .slot) (a .blocks .now) (r .read-reported .ensures)
+    (c .before .before .before .before .before .before .before .before .before .if1 .left)
     (r .before .before .before .before .pre) in
     omega arith
 
 returns-2 : tie.Need-returns-2
 returns-2 c =
-    let r = c .before .before .before .before .before .before .before .before .before .before in
+    let r = c .before .before .before .before .before .before .before .before .before .before .before in
     let a = r .before .before .before .before .args in
-    let i = c .before .before .before .before .before .if2 in
+    let i = c .before .before .before .before .before .before .if2 in
     let reads =
     header-reads (a .settings) (a .q .frame) (a .q .slot) (a .blocks .now) (r .read-reported .ensures)
-    (c .before .before .before .before .before .before .before .before .if1 .left)
+    (c .before .before .before .before .before .before .before .before .before .if1 .left)
     (r .before .before .before .before .pre)
-    (c .before .before .before .before .meant .ensures) (c .before .before .without-two .ensures) (i .what) in
+    (c .before .before .before .before .before .meant .ensures) (c .before .before .before .without-two .ensures)
+    (i .what) in
     let f = r .read-reported .result .fragmented in
-    ⊎-elim (λ w. reads true (eq-eqb f 1 (w .0 .taken)) (w .1)) (λ w. reads false (ne-eqb f 1 (w .0 .left)) (w .1))
-    (i .came)
+    rw (c .before .before .same-fields .ensures)
+    (⊎-elim (λ w. reads true (eq-eqb f 1 (w .0 .taken)) (w .1)) (λ w. reads false (ne-eqb f 1 (w .0 .left)) (w .1))
+    (i .came))
 
 pub header-spec : {M : Type 1} → statement M
 header-spec =
@@ -109,7 +115,8 @@ header-spec =
     mul-without-two
     add-without-two
     without-two-requires
-    sub-t19
-    mul-t20
-    add-t21
+    same-fields-requires
+    sub-t20
+    mul-t21
+    add-t22
     returns-2)

@@ -61,11 +61,11 @@ same-length c =
 returns : tie.Need-returns
 unfolding lineOf
 returns c =
-    let a =
-    c .before .before .before .before .before .before .before .before .before .before .before .before .before .args in
+    let g = c .before .before .before .before .before .before .before .before .before .before .before .before .before in
+    let a = g .args in
     let d = c .before .before .before .before .before .before .before .before .before .before .decimal in
     let n = c .before .before .numbers in
-    let f = decimal-few 2 (a .frame) (omega arith) in
+    let f = decimal-few 2 (a .frame) (omega (arith, g .fits .frame)) in
     let w =
     wrote-both (a .out .now) (a .at) (decimalOf (a .frame))
     (spaced (a .slot ∷ a .a .outcome ∷ a .a .dropped ∷ a .a .fault ∷ a .a .bits ∷ [])) (d .ensures) (n .ensures .0)

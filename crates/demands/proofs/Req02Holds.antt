@@ -1,0 +1,89 @@
+-- Request 02 holds. Assumes nothing.
+use mathlib.Core.Path.{_≡_, refl, sym, subst, subst⁻¹, _∙_}
+use mathlib.Core.Logic.{_⊎_, inl, inr}
+use mathlib.Core.Bool.{false}
+use Prim.Native.Nat.{ℕ, zero, suc}
+use native.Mathlib.Omega.{arith}
+use Rattle.history.specs.Line.{_▸_, _⧺_}
+use Rattle.history.specs.Slots.{no-loss, Report}
+use Rattle.history.specs.Step.{dropped-at}
+use Rattle.history.specs.History.{History, Run, Drops, IsShortData, LostTold, none-lost, one-lost}
+use Rattle.history.specs.Fate.{Way, still-open, EndsBy, by-end, by-loss, by-repeat, Still}
+use Rattle.history.specs.declared.Lost.{Lost}
+use Rattle.history.proofs.Theorems.{theorem-dropped}
+use Rattle.history.proofs.FateHolds.{over-mark, anew-mark, not-yet, lost-or-handed-over}
+use Rattle.history.proofs.Verdicts.{absurd-bool}
+use Rattle.receiver.specs.Reached.{refusedWith}
+use Rattle.demands.specs.Calls.{HearCall, history, current, answer}
+use Rattle.demands.specs.Demand3.{Taken}
+use Rattle.demands.specs.Req02.{Says, Req02}
+use Rattle.demands.proofs.Demand3Holds.{given, demand3}
+
+told-types : {hs : History} {r : Report} {x : Lost} → LostTold hs r x → (x ≡ no-loss) ⊎ IsShortData (x .message)
+told-types (none-lost n) = inl refl
+told-types (one-lost x l) = inr (subst⁻¹ (λ (y : Lost). IsShortData (y .message)) (l .its-numbers) (l .short-data))
+
+module _ (c : HearCall) (t : Taken c) where
+  -- Where nothing is dropped nothing is told of a loss.
+  not-dropped : (Drops (history c) (current c) → ⊥) → (answer c .dropped ≡ 0) × (answer c .lost ≡ no-loss)
+  not-dropped n =
+      let z : answer c .dropped ≡ 1 → ⊥ = λ e. n (demand3 .dropped c t .0 e) in
+      (omega (arith, demand3 .mark c t, z), demand3 .none-lost c t .1 (λ x l. n (l .drops)))
+
+  unmarked : dropped-at (history c) (current c) ≡ false → Drops (history c) (current c) → ⊥
+  unmarked e d = absurd-bool (sym e ∙ theorem-dropped (history c) (current c) .1 d)
+
+  ended : {u : Run} {w : Way} → EndsBy (history c) u (current c) w → Says c u w
+  ended (by-end last x) =
+      let (d, l) = not-dropped (unmarked (over-mark x)) in (
+        demand3 .joined c t .1 (record { fields = _; message = _; holds = x }),
+        d,
+        l,
+        (last, demand3 .joined-what c t _ _ x),
+      )
+  ended (by-loss x) = (
+    demand3 .dropped c t .1 (x .drops),
+    demand3 .lost c t _ .0 x .0,
+    λ e.
+        let s = demand3 .joined c t .0 e in
+        unmarked (over-mark (s .holds)) (x .drops),
+  )
+  ended (by-repeat z) =
+      let (d, l) = not-dropped (unmarked (anew-mark z)) in (
+        demand3 .opened c t .1
+            (record {
+              header = z .header;
+              more = z .more;
+              countdown = z .countdown;
+              holds = z .holds;
+              for-us = z .repeats .0;
+            }),
+        d,
+        l,
+      )
+
+  not-ended : (before : History) (o : Report) (since : History) (u : Run) → history c ≡ (before ▸ o) ⧺ since
+      → Still before o (since ▸ current c) u → Says c u still-open
+  not-ended before o since u e s =
+      not-dropped (λ d. not-yet before o since (current c) s (subst (λ (h : History). Drops h (current c)) e d))
+
+  dropped : IsShortData (answer c .lost .message) → answer c .dropped ≡ 1
+  dropped k = demand3 .dropped c t .1 (demand3 .lost c t (answer c .lost) .1 (refl, k) .drops)
+
+types : (c : HearCall) → (answer c .lost ≡ no-loss) ⊎ IsShortData (answer c .lost .message)
+types c = go (refusedWith (c .report) (c .old)) refl
+  where
+    go : (n : ℕ) → refusedWith (c .report) (c .old) ≡ n
+        → (answer c .lost ≡ no-loss) ⊎ IsShortData (answer c .lost .message)
+    go zero e = told-types (given c e .lost)
+    go (suc n) e = inl (rw (demand3 .refused c n e .0) refl)
+
+pub req02 : Req02
+req02 =
+    record {
+      fates = lost-or-handed-over;
+      ended = λ c t x. ended c t x;
+      not-ended = not-ended;
+      types = types;
+      dropped = dropped;
+    }

@@ -1,0 +1,36 @@
+-- Request 02: a hire lost on the way is heard of. Demand 3 says exactly where a loss is told, and which three numbers;
+-- here is what becomes of an assembly of a DM-SDS DATA or a DM-SDS ACK over all reports, and what the calls say of it.
+-- `Fate`, `Still` and `EndsBy` are in crates/history/specs/Fate.antt.
+use mathlib.Core.Path.{_≡_}
+use mathlib.Core.Logic.{_⊎_}
+use mathlib.Core.Bool.{Bool}
+use mathlib.Core.List.{List, _++_}
+use Rattle.history.specs.Line.{_▸_, _⧺_}
+use Rattle.history.specs.Slots.{no-loss, Report}
+use Rattle.history.specs.History.{History, join, Run, IsShortData, loss}
+use Rattle.history.specs.Fate.{Way, still-open, handed-over, lost, opened-anew, EndsBy, Still, LostOrHandedOver}
+use Rattle.demands.specs.Calls.{HearCall, history, current, answer}
+use Rattle.demands.specs.Demand3.{HandsOver, Taken}
+
+-- What the answer says of an assembly that ends here, as the run u, in one of the ways; while it is still open, and
+-- where it is not lost, nothing of a loss.
+abbrev pub Says : HearCall → Run → Way → Type 0
+Says c u still-open = (answer c .dropped ≡ 0) × (answer c .lost ≡ no-loss)
+Says c u handed-over =
+    (answer c .outcome ≡ 2) × (answer c .dropped ≡ 0) × (answer c .lost ≡ no-loss)
+    × ((last : List Bool) × HandsOver c (u .header .fields) (join (u .header .bits) (u .blocks) ++ last))
+Says c u lost = (answer c .dropped ≡ 1) × (answer c .lost ≡ loss u) × (answer c .outcome ≡ 2 → ⊥)
+Says c u opened-anew = (answer c .outcome ≡ 3) × (answer c .dropped ≡ 0) × (answer c .lost ≡ no-loss)
+
+pub record Req02 : Type 0 where
+  -- Over any reports an assembly of these two types that was opened comes to one of the four, never to two, once.
+  pub fates : LostOrHandedOver
+  -- The answer at the report where it ends says how it ended.
+  pub ended : (c : HearCall) → Taken c → {u : Run} {w : Way} → EndsBy (history c) u (current c) w → Says c u w
+  -- Until then nothing is told: at a report after which it is still open.
+  pub not-ended : (c : HearCall) → Taken c → (before : History) (o : Report) (since : History) (u : Run)
+      → history c ≡ (before ▸ o) ⧺ since → Still before o (since ▸ current c) u → Says c u still-open
+  -- The message type shows whether a loss is told: it is 23 or 24, or all three numbers are 0, refused reports too. And
+  -- what is told lost was dropped.
+  pub types : (c : HearCall) → (answer c .lost ≡ no-loss) ⊎ IsShortData (answer c .lost .message)
+  pub dropped : (c : HearCall) → Taken c → IsShortData (answer c .lost .message) → answer c .dropped ≡ 1
