@@ -99,6 +99,21 @@ def made():
     return files
 
 
+def held_lost():
+    """What the reports of a story tell of lost messages is what the story says, by each program."""
+    for name, lost in stories.LOSSES.items():
+        given = calls(stories.LOGS[name]())
+        programs = {"the second program": second.run("probe", given=given)}
+        if sys.argv[1:]:
+            programs["probe"] = second.run_probe(given)
+        for program, printed in programs.items():
+            for number, line in enumerate(second.lines(printed)[1:], 1):
+                told, should_be = tuple(map(int, line.split()[-3:])), lost.get(number, (0, 0, 0))
+                if told != should_be:
+                    where = "%s, line %d of %s" % (program, number, name)
+                    sys.exit("logs: %s tells of %s lost, and not of %s" % (where, told, should_be))
+
+
 def runs(files):
     """(program, file, printed, should be) for each sample and each program that prints it."""
     for name in stories.LOGS:
@@ -135,6 +150,7 @@ def main():
         sys.exit(__doc__)
     second.build()
     files = made()
+    held_lost()
     for program, name, printed, should_be in runs(files):
         if printed != should_be:
             sys.exit("logs: %s, samples/%s: %s" % (program, name, first_difference(printed, should_be)))

@@ -549,3 +549,6 @@ CALLS = {"june": june_goes_on}
 LOGS = {"june": june, "second-cage": second_cage, "missed-block": missed_block, "copies": copies,
         "two-cages": two_cages, "goes-back": goes_back, "copy-18-later": copy_18_later, "damaged": damaged,
         "no-unit": no_unit}
+
+# What is lost in a story, by its line: source, message type and bits. At its other lines nothing is.
+LOSSES = {"missed-block": {line: (7, 23, 281) for line in (5, 13, 21)}}

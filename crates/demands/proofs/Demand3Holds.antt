@@ -11,7 +11,7 @@ use Rattle.blocks.specs.declared.header.Fields.{Fields}
 use Rattle.history.specs.Line.{Line, start}
 use Rattle.history.specs.Slots.{no-fields, no-loss, Report}
 use Rattle.history.specs.History.{History, Closes, Singles, Opens, Keeps, Copies, Told}
-use Rattle.history.specs.History.{IsShortData, Loses, LostTold, one-lost}
+use Rattle.history.specs.History.{IsAcknowledged, Loses, LostTold, one-lost}
 use Rattle.history.specs.History as history-of
 use Rattle.history.specs.History.{nothing-told, single-told, joined-told, opened-told, kept-told, copy-told}
 use Rattle.history.specs.declared.Lost.{Lost}
@@ -121,10 +121,10 @@ module _ (c : HearCall) (t : Taken c) where
 
 -- what is lost, by what is told of it
 lost : (c : HearCall) → Taken c → (x : Lost)
-    → Loses (history c) (current c) x ↔ ((answer c .lost ≡ x) × IsShortData (x .message))
+    → Loses (history c) (current c) x ↔ ((answer c .lost ≡ x) × IsAcknowledged (x .message))
 lost c t x = (
-  λ l. (sym (is-told l), subst⁻¹ (λ (x : Lost). IsShortData (x .message)) (l .its-numbers) (l .short-data)),
-  λ (e, k). go (given c t .lost) (subst⁻¹ (λ (x : Lost). IsShortData (x .message)) e k) e,
+  λ l. (sym (is-told l), subst⁻¹ (λ (x : Lost). IsAcknowledged (x .message)) (l .its-numbers) (l .acknowledged)),
+  λ (e, k). go (given c t .lost) (subst⁻¹ (λ (x : Lost). IsAcknowledged (x .message)) e k) e,
 )
   where
     only : {y : Lost} → LostTold (history c) (current c) y → y ≡ answer c .lost
@@ -134,7 +134,7 @@ lost c t x = (
     is-told : Loses (history c) (current c) x → x ≡ answer c .lost
     is-told l = only (one-lost x l)
 
-    go : {y : Lost} → LostTold (history c) (current c) y → IsShortData (y .message) → y ≡ x
+    go : {y : Lost} → LostTold (history c) (current c) y → IsAcknowledged (y .message) → y ≡ x
         → Loses (history c) (current c) x
     go (history-of.none-lost n) (inl z) e = absurd (omega (arith, z))
     go (history-of.none-lost n) (inr z) e = absurd (omega (arith, z))
@@ -143,13 +143,15 @@ lost c t x = (
 none-lost : (c : HearCall) → Taken c
     → (answer c .lost ≡ no-loss) ↔ ((x : Lost) → Loses (history c) (current c) x → ⊥)
 none-lost c t = (
-  λ e x l. let (f, k) = lost c t x .0 l in no-loss-told (subst (λ (x : Lost). IsShortData (x .message)) (sym f ∙ e) k),
+  λ e x l.
+      let (f, k) = lost c t x .0 l in
+      no-loss-told (subst (λ (x : Lost). IsAcknowledged (x .message)) (sym f ∙ e) k),
   λ n.
       theorem-lost-only (history c) (current c) (given c t .lost)
       ∙ sym (theorem-lost-only (history c) (current c) (history-of.none-lost n)),
 )
   where
-    no-loss-told : IsShortData 0 → ⊥
+    no-loss-told : IsAcknowledged 0 → ⊥
     no-loss-told (inl z) = omega (arith, z)
     no-loss-told (inr z) = omega (arith, z)
 

@@ -7,7 +7,7 @@ use native.Mathlib.Omega.{arith}
 use Rattle.history.specs.Line.{_▸_, _⧺_}
 use Rattle.history.specs.Slots.{no-loss, Report}
 use Rattle.history.specs.Step.{dropped-at}
-use Rattle.history.specs.History.{History, Run, Drops, IsShortData, LostTold, none-lost, one-lost}
+use Rattle.history.specs.History.{History, Run, Drops, IsAcknowledged, LostTold, none-lost, one-lost}
 use Rattle.history.specs.Fate.{Way, still-open, EndsBy, by-end, by-loss, by-repeat, Still}
 use Rattle.history.specs.declared.Lost.{Lost}
 use Rattle.history.proofs.Theorems.{theorem-dropped}
@@ -19,9 +19,9 @@ use Rattle.demands.specs.Demand3.{Taken}
 use Rattle.demands.specs.Req02.{Says, Req02}
 use Rattle.demands.proofs.Demand3Holds.{given, demand3}
 
-told-types : {hs : History} {r : Report} {x : Lost} → LostTold hs r x → (x ≡ no-loss) ⊎ IsShortData (x .message)
+told-types : {hs : History} {r : Report} {x : Lost} → LostTold hs r x → (x ≡ no-loss) ⊎ IsAcknowledged (x .message)
 told-types (none-lost n) = inl refl
-told-types (one-lost x l) = inr (subst⁻¹ (λ (y : Lost). IsShortData (y .message)) (l .its-numbers) (l .short-data))
+told-types (one-lost x l) = inr (subst⁻¹ (λ (y : Lost). IsAcknowledged (y .message)) (l .its-numbers) (l .acknowledged))
 
 module _ (c : HearCall) (t : Taken c) where
   -- Where nothing is dropped nothing is told of a loss.
@@ -67,14 +67,14 @@ module _ (c : HearCall) (t : Taken c) where
   not-ended before o since u e s =
       not-dropped (λ d. not-yet before o since (current c) s (subst (λ (h : History). Drops h (current c)) e d))
 
-  dropped : IsShortData (answer c .lost .message) → answer c .dropped ≡ 1
+  dropped : IsAcknowledged (answer c .lost .message) → answer c .dropped ≡ 1
   dropped k = demand3 .dropped c t .1 (demand3 .lost c t (answer c .lost) .1 (refl, k) .drops)
 
-types : (c : HearCall) → (answer c .lost ≡ no-loss) ⊎ IsShortData (answer c .lost .message)
+types : (c : HearCall) → (answer c .lost ≡ no-loss) ⊎ IsAcknowledged (answer c .lost .message)
 types c = go (refusedWith (c .report) (c .old)) refl
   where
     go : (n : ℕ) → refusedWith (c .report) (c .old) ≡ n
-        → (answer c .lost ≡ no-loss) ⊎ IsShortData (answer c .lost .message)
+        → (answer c .lost ≡ no-loss) ⊎ IsAcknowledged (answer c .lost .message)
     go zero e = told-types (given c e .lost)
     go (suc n) e = inl (rw (demand3 .refused c n e .0) refl)
 

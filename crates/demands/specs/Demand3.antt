@@ -17,7 +17,7 @@ use Rattle.blocks.specs.declared.header.Fields.{Fields}
 use Rattle.history.specs.Line.{_▸_, _⧺_, Every}
 use Rattle.history.specs.Slots.{no-fields, no-loss, Report}
 use Rattle.history.specs.History.{History, NotFragmented, Closes, Singles, Opens, Keeps, Copies, Drops}
-use Rattle.history.specs.History.{IsShortData, Loses}
+use Rattle.history.specs.History.{IsAcknowledged, Loses}
 use Rattle.history.specs.declared.Lost.{Lost}
 use Rattle.reports.specs.Lent.{faultIn}
 use Rattle.receiver.specs.View.{plainAnswer}
@@ -79,7 +79,7 @@ pub record Demand3 : Type 0 where
   -- and they are its own: the source address of its header, its message type and the bits joined so far. Otherwise they
   -- are zeros.
   pub lost : (c : HearCall) → Taken c → (x : Lost)
-      → Loses (history c) (current c) x ↔ ((answer c .lost ≡ x) × IsShortData (x .message))
+      → Loses (history c) (current c) x ↔ ((answer c .lost ≡ x) × IsAcknowledged (x .message))
   pub none-lost : (c : HearCall) → Taken c
       → (answer c .lost ≡ no-loss) ↔ ((x : Lost) → Loses (history c) (current c) x → ⊥)
   -- The fault is the reader's.

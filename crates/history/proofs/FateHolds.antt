@@ -18,7 +18,7 @@ use Rattle.history.specs.Step.{Assembly, Answer, no-assembly, in-turn, r
 use Rattle.history.specs.Step.{after, step, answer, dropped-at}
 use Rattle.history.specs.History.{History, final, InTurn, Unbroken, NotFragmented, Run, IsOpen, next-due, join}
 use Rattle.history.specs.History.{Closes, Opens, DueKind, Ends, broken, other-header, missed, Drops}
-use Rattle.history.specs.History.{IsShortData}
+use Rattle.history.specs.History.{IsAcknowledged}
 use Rattle.history.specs.Fate.{Way, still-open, handed-over, lost, opened-anew, Renews, EndsBy, by-end, by-loss}
 use Rattle.history.specs.Fate.{by-repeat, Still, Fate, not-ended, ended, HasFate, LostOrHandedOver}
 use Rattle.history.proofs.Lines.{both, ⧺-assoc, ⧺-cancel}
@@ -131,7 +131,7 @@ own {before} {o} {since} {u} s =
     (s .is-open .split ∙ ap (λ (l : History). (s .is-open .before ▸ p) ⧺ l) (s .its-own)) in
     ap (λ (r : Report). r .heard) (both e .1)
 
-module _ (before : History) (o : Report) (y : Opens o) (k : IsShortData (y .header .fields .message)) where
+module _ (before : History) (o : Report) (y : Opens o) (k : IsAcknowledged (y .header .fields .message)) where
   opened : Still before o start
       (record {
         header = y .header;
@@ -156,8 +156,8 @@ module _ (before : History) (o : Report) (y : Opens o) (k : IsShortData (y .head
         its-own = refl;
       }
 
-  one-of-two : {since : History} {u : Run} → Still before o since u → IsShortData (u .header .fields .message)
-  one-of-two s = subst (λ (x : Heard). IsShortData (header-in x .fields .message)) (sym (y .holds) ∙ own s) k
+  one-of-two : {since : History} {u : Run} → Still before o since u → IsAcknowledged (u .header .fields .message)
+  one-of-two s = subst (λ (x : Heard). IsAcknowledged (header-in x .fields .message)) (sym (y .holds) ∙ own s) k
 
   grows-fate : {since : History} (r : Report) (u : Run) (s : Still before o since u)
       → Next ((before ▸ o) ⧺ since) u r → HasFate before o (since ▸ r)
@@ -184,7 +184,7 @@ module _ (before : History) (o : Report) (y : Opens o) (k : IsShortData (y .head
             (by-loss
             (record {
               drops = record { run = u; is-open = s .is-open; ends = e };
-              short-data = one-of-two s;
+              acknowledged = one-of-two s;
               its-numbers = refl;
             }));
       }

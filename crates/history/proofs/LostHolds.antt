@@ -8,28 +8,28 @@ use lib.ListN.{length}
 use borrow.Author.Tests.{eqb-true}
 use Rattle.history.specs.Slots.{no-loss, Report}
 use Rattle.history.specs.declared.Lost.{Lost}
-use Rattle.history.specs.Step.{Assembly, is-short-data, lost-of, after, dropped-at, loss-at}
-use Rattle.history.specs.History.{History, IsShortData, loss, Loses, LostTold, none-lost, one-lost}
+use Rattle.history.specs.Step.{Assembly, is-acknowledged, lost-of, after, dropped-at, loss-at}
+use Rattle.history.specs.History.{History, IsAcknowledged, loss, Loses, LostTold, none-lost, one-lost}
 use Rattle.history.proofs.Verdicts.{absurd-bool}
 use Rattle.history.proofs.OpenRun.{and-true, found}
 use Rattle.history.proofs.Theorems.{theorem-dropped}
 
 -- The two message types, by their test.
-short-true : (m : ℕ) → is-short-data m ≡ true → IsShortData m
-short-true m = go (eqb m 23) refl
+type-true : (m : ℕ) → is-acknowledged m ≡ true → IsAcknowledged m
+type-true m = go (eqb m 23) refl
   where
-    go : (b : Bool) → eqb m 23 ≡ b → (b || eqb m 24) ≡ true → IsShortData m
+    go : (b : Bool) → eqb m 23 ≡ b → (b || eqb m 24) ≡ true → IsAcknowledged m
     go true e h = inl (eqb-true m 23 e)
     go false e h = inr (eqb-true m 24 h)
 
-short-is : (m : ℕ) → IsShortData m → is-short-data m ≡ true
-short-is m (inl e) = rw e refl
-short-is m (inr e) = rw e refl
+type-is : (m : ℕ) → IsAcknowledged m → is-acknowledged m ≡ true
+type-is m (inl e) = rw e refl
+type-is m (inr e) = rw e refl
 
 module _ (hs : History) (r : Report) where
   -- The two that a loss hangs on, and what would be told of the state's assembly.
   abbrev lost : Bool → Assembly → Bool
-  lost b a = b && is-short-data (a .run .fields .message)
+  lost b a = b && is-acknowledged (a .run .fields .message)
 
   abbrev told : Bool → Assembly → Lost
   told b a = lost-of b (a .run .fields .source .ssi) (a .run .fields .message) (length (a .joined))
@@ -43,26 +43,26 @@ module _ (hs : History) (r : Report) where
     lost-is =
         let d = l .drops in
         ap₂ lost (theorem-dropped hs r .1 d) (found hs (d .run) (d .is-open))
-        ∙ short-is (d .run .header .fields .message) (l .short-data)
+        ∙ type-is (d .run .header .fields .message) (l .acknowledged)
 
     loses-is : x ≡ loss-at hs r
     loses-is =
         let d = l .drops in
         let u = d .run in
         l .its-numbers
-        ∙ sym (ap (λ (b : Bool). cond b (loss u) no-loss) (short-is (u .header .fields .message) (l .short-data)))
+        ∙ sym (ap (λ (b : Bool). cond b (loss u) no-loss) (type-is (u .header .fields .message) (l .acknowledged)))
         ∙ sym (ap₂ told (theorem-dropped hs r .1 d) (found hs u (d .is-open)))
 
   loses-true : lost-now ≡ true → Loses hs r (loss-at hs r)
   loses-true e =
-      let (a, b) = and-true (dropped-at hs r) (is-short-data (after hs .assembly .run .fields .message)) e in
+      let (a, b) = and-true (dropped-at hs r) (is-acknowledged (after hs .assembly .run .fields .message)) e in
       let d = theorem-dropped hs r .0 a in
       let u = d .run in
       let f = found hs u (d .is-open) in
-      let s = sym (ap (λ (a : Assembly). is-short-data (a .run .fields .message)) f) ∙ b in
+      let s = sym (ap (λ (a : Assembly). is-acknowledged (a .run .fields .message)) f) ∙ b in
       record {
         drops = d;
-        short-data = short-true (u .header .fields .message) s;
+        acknowledged = type-true (u .header .fields .message) s;
         its-numbers = ap₂ told a f ∙ ap (λ (b : Bool). cond b (loss u) no-loss) s;
       }
 

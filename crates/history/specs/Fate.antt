@@ -7,7 +7,7 @@ use mathlib.Core.List.{List, _++_}
 use Rattle.history.specs.Line.{_▸_, _⧺_, count}
 use Rattle.history.specs.Slots.{Header, fragmented, Report}
 use Rattle.history.specs.History.{History, Unbroken, join, Run, IsOpen, Closes, Opens, Repeats}
-use Rattle.history.specs.History.{IsShortData, loss, Loses}
+use Rattle.history.specs.History.{IsAcknowledged, loss, Loses}
 
 pub data Way : Type 0 where
   still-open handed-over lost opened-anew : Way
@@ -49,8 +49,8 @@ pub record HasFate (before : History) (o : Report) (since : History) : Type 0 wh
 
 pub record LostOrHandedOver : Type 0 where
   -- Never neither: every assembly of these two types that a report opens comes to one of the four.
-  pub some : (before : History) (o : Report) (since : History) (y : Opens o) → IsShortData (y .header .fields .message)
-      → HasFate before o since
+  pub some : (before : History) (o : Report) (since : History) (y : Opens o)
+      → IsAcknowledged (y .header .fields .message) → HasFate before o since
   -- Never both, and once: to one of them only, at one report only.
   pub only : {before : History} {o : Report} {since : History} {w w′ : Way} {n n′ : ℕ} → Fate before o since w n
       → Fate before o since w′ n′ → (w ≡ w′) × (n ≡ n′)

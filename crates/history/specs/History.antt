@@ -181,9 +181,10 @@ pub record Drops (hs : History) (r : Report) : Type 0 where
   pub is-open : IsOpen hs run
   pub ends : Ends hs run r
 
--- A DM-SDS DATA (23) or a DM-SDS ACK (24): of these two a loss is told (7.4.21, 8.5.4.2).
-abbrev pub IsShortData : ℕ → Type 0
-IsShortData message = (message ≡ 23) ⊎ (message ≡ 24)
+-- Acknowledged short data (4.3.6.2): a DM-SDS DATA (23) or a DM-SDS ACK (24). Of these two a loss is told (7.4.21,
+-- 8.5.4.2).
+abbrev pub IsAcknowledged : ℕ → Type 0
+IsAcknowledged message = (message ≡ 23) ⊎ (message ≡ 24)
 
 -- What is told of a run: the source address of its header, its message type, and the bits joined so far, those of the
 -- header and of the blocks kept.
@@ -195,10 +196,10 @@ loss u =
       bits = length (join (u .header .bits) (u .blocks));
     }
 
--- The report loses a message of these two: its run is dropped here.
+-- The report loses a message of these two: its run is dropped here, and these are the run's three numbers.
 pub record Loses (hs : History) (r : Report) (x : Lost) : Type 0 where
   pub drops : Drops hs r
-  pub short-data : IsShortData (drops .run .header .fields .message)
+  pub acknowledged : IsAcknowledged (drops .run .header .fields .message)
   pub its-numbers : x ≡ loss (drops .run)
 
 -- The three numbers that the history asks for.

@@ -321,12 +321,12 @@ dropped-at hs r = answer (after hs) r .dropped
 
 -- What is told of an assembly that ends without being handed over: of a DM-SDS DATA (23) and a DM-SDS ACK (24) the
 -- source address, the message type and so many bits; of all others, and where none is dropped, zeros.
-abbrev pub is-short-data : ℕ → Bool
-is-short-data message = eqb message 23 || eqb message 24
+abbrev pub is-acknowledged : ℕ → Bool
+is-acknowledged message = eqb message 23 || eqb message 24
 
 abbrev pub lost-of : Bool → ℕ → ℕ → ℕ → Lost
 lost-of dropped source message n =
-    cond (dropped && is-short-data message) (record { source = source; message = message; bits = n }) no-loss
+    cond (dropped && is-acknowledged message) (record { source = source; message = message; bits = n }) no-loss
 
 abbrev pub lost-in : State → Bool → Lost
 lost-in s dropped =

@@ -5,7 +5,7 @@ ghost use Prim.Native.Nat.{_+_, _≤_, _<_};
 ghost use lib.ListN.{length};
 ghost use Rattle.bits.specs.Bits.{Inside};
 ghost use Rattle.history.specs.Slots.{no-loss};
-ghost use Rattle.history.specs.Step.{is-short-data, lost-of};
+ghost use Rattle.history.specs.Step.{is-acknowledged, lost-of};
 ghost use Rattle.receiver.specs.View.{plainAnswer, withLoss, broughtBits, Told};
 use blocks::header::Fields;
 use blocks::header::no_fields;
@@ -51,9 +51,9 @@ fn plain(outcome: u8, dropped: u8, fault: u8) -> Answer
     }
 }
 
-// Whether a loss is told of messages of this type.
-fn is_short_data(message: u8) -> bool
-    ensures { λ r. ⌜ r ≡ is-short-data message ⌝ }
+// Whether a loss is told of messages of this type: acknowledged short data.
+fn is_acknowledged(message: u8) -> bool
+    ensures { λ r. ⌜ r ≡ is-acknowledged message ⌝ }
 {
     if message == Lost::SDS_DATA {
         return true;
@@ -69,7 +69,7 @@ pub(crate) fn lost_of(dropped: bool, source: u32, message: u8, bits: usize) -> L
     if !dropped {
         return no_loss();
     }
-    if !is_short_data(message) {
+    if !is_acknowledged(message) {
         return no_loss();
     }
     Lost {

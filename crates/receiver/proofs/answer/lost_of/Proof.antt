@@ -10,8 +10,8 @@ no-loss-requires c κs = search needs
 returns : tie.Need-returns
 returns c = rw (c .no-loss .ensures, not-true (c .before .before .args .dropped) (c .before .if1 .taken)) refl
 
-is-short-data-requires : tie.Need-is-short-data-requires
-is-short-data-requires c κs = search needs
+is-acknowledged-requires : tie.Need-is-acknowledged-requires
+is-acknowledged-requires c κs = search needs
 
 no-loss-requires-2 : tie.Need-no-loss-requires-2
 no-loss-requires-2 c κs = search needs
@@ -23,7 +23,7 @@ returns-2 c =
     rw (
       c .no-loss2 .ensures,
       not-false (f .args .dropped) (h .before .if1 .left),
-      sym (h .is-short-data .ensures) ∙ not-true (h .is-short-data .result) (c .before .if2 .taken),
+      sym (h .is-acknowledged .ensures) ∙ not-true (h .is-acknowledged .result) (c .before .if2 .taken),
     ) refl
 
 returns-3 : tie.Need-returns-3
@@ -32,10 +32,10 @@ returns-3 c =
     let f = h .before .before in
     rw (
       not-false (f .args .dropped) (h .before .if1 .left),
-      sym (h .is-short-data .ensures) ∙ not-false (h .is-short-data .result) (c .if2 .left),
+      sym (h .is-acknowledged .ensures) ∙ not-false (h .is-acknowledged .result) (c .if2 .left),
     ) refl
 
 pub lost-of-spec : {M : Type 1} → statement M
 lost-of-spec =
     tie.close
-    (tie.spec no-loss-requires returns is-short-data-requires no-loss-requires-2 returns-2 returns-3)
+    (tie.spec no-loss-requires returns is-acknowledged-requires no-loss-requires-2 returns-2 returns-3)
