@@ -1,6 +1,6 @@
 -- Demand 3 holds. Assumes nothing.
 use mathlib.Core.Path.{_≡_, refl, sym, ap, subst, subst⁻¹, _∙_}
-use mathlib.Core.Logic.{_↔_, inl, inr}
+use mathlib.Core.Logic.{_↔_, _⊎_, inl, inr}
 use mathlib.Core.Bool.{Bool, true, false, cond}
 use mathlib.Core.List.{List, []}
 use Prim.Native.Nat.{ℕ, zero, suc, _≤_}
@@ -9,26 +9,34 @@ use lib.ListN.{length}
 use Rattle.store.specs.Store.{handed}
 use Rattle.blocks.specs.declared.header.Fields.{Fields}
 use Rattle.history.specs.Line.{Line, start}
-use Rattle.history.specs.Slots.{no-fields, no-loss, Report}
+use Rattle.history.specs.Slots.{Heard, nothing, fragmented, unfragmented, frag, end, no-fields, no-loss, Report}
+use Rattle.history.specs.Step.{dropped-at}
 use Rattle.history.specs.History.{History, Closes, Singles, Opens, Keeps, Copies, Told}
 use Rattle.history.specs.History.{IsAcknowledged, Loses, LostTold, one-lost}
 use Rattle.history.specs.History as history-of
 use Rattle.history.specs.History.{nothing-told, single-told, joined-told, opened-told, kept-told, copy-told}
 use Rattle.history.specs.declared.Lost.{Lost}
-use Rattle.history.proofs.Theorems.{theorem-unique, theorem-once}
+use Rattle.history.proofs.Verdicts.{absurd-bool}
+use Rattle.history.proofs.Theorems.{theorem-unique, theorem-once, theorem-dropped}
+use Rattle.history.proofs.FateHolds.{over-mark, keep-mark}
 use Rattle.history.proofs.LostHolds.{theorem-lost-only}
 use Rattle.reports.specs.Lent.{Event}
+use Rattle.reports.proofs.FaultLaws.{unread}
 use Rattle.reports.specs.Units.{settingsFit}
 use Rattle.reports.specs.declared.unit.Settings.{Settings}
 use Rattle.receiver.specs.View.{newReceiver}
-use Rattle.receiver.specs.Reached.{Leads, Answered}
+use Rattle.receiver.specs.Reached.{Leads, Reached, Answered}
 use Rattle.receiver.specs.declared.Receiver.{Receiver}
 use Rattle.receiver.specs.declared.Fresh.{Fresh}
 use Rattle.receiver.proofs.TellLaws.{handed-none}
-use Rattle.receiver.proofs.AcceptedLaws.{passes}
+use Rattle.receiver.proofs.AcceptedLaws.{passes, canonical}
+use Rattle.receiver.proofs.AnswerLaws.{hear-unique}
+use Rattle.receiver.proofs.ReplyLaws.{replies}
 use Rattle.receiver.proofs.HearLaws.{fresh-leads}
-use Rattle.demands.specs.Calls.{Calls, begun, refused, accepted, HearCall, history, current, answer}
-use Rattle.demands.specs.Demand3.{Some, HandsOver, HandsNothing, Taken, Demand3}
+use Rattle.demands.specs.Calls.{Calls, begun, refused, accepted, HearCall, Made, history, current, answer}
+use Rattle.demands.specs.Calls.{refusal, heard-after, Taken}
+use Rattle.demands.specs.Demand3.{Some, HandsOver, HandsNothing, Answers, Demand3}
+use Rattle.demands.proofs.CopyLaws.{copies-bits}
 
 -- ---- the calls lead to their receiver
 
@@ -92,7 +100,7 @@ apart (copy-told c) = (omega arith, λ a b. (refl, refl))
 
 module _ (c : HearCall) (t : Taken c) where
   pub given : Answered (c .settings) (c .earlier) (c .report) (c .reply) (c .old) (c .new)
-  given = c .hears .answered (c .settings) (c .earlier) (leads (c .calls)) t
+  given = t .made .hears .answered (c .settings) (c .earlier) (leads (t .made .calls)) (t .accepted)
 
   said : {n : ℕ} → answer c .outcome ≡ n → Means (history c) (current c) n
   said e = subst (Means (history c) (current c)) e (means (given .told))
@@ -155,25 +163,87 @@ none-lost c t = (
     no-loss-told (inl z) = omega (arith, z)
     no-loss-told (inr z) = omega (arith, z)
 
+-- ---- what goes with a number
+
+abbrev is-nothing : Heard → Bool
+is-nothing nothing = true
+is-nothing (fragmented h more f) = false
+is-nothing (unfragmented h f) = false
+is-nothing (frag b) = false
+is-nothing (end b) = false
+
+-- a report that brings nothing is told of as nothing
+unheard : {hs : History} {r : Report} {n : ℕ} {g : Fields} {m : List Bool} → Told hs r n g m → r .heard ≡ nothing → n ≡ 0
+unheard (nothing-told s j o k y) e = refl
+unheard (single-told g m c) e = absurd-bool (ap is-nothing (sym (c .holds) ∙ e))
+unheard (joined-told g m c) e = absurd-bool (ap is-nothing (sym (c .holds) ∙ e))
+unheard (opened-told c) e = absurd-bool (ap is-nothing (sym (c .holds) ∙ e))
+unheard (kept-told c) e = absurd-bool (ap is-nothing (sym (c .holds) ∙ e))
+unheard (copy-told c) e = absurd-bool (ap is-nothing (sym (c .holds) ∙ e))
+
+module _ (c : HearCall) (t : Taken c) where
+  pub unmarked : dropped-at (history c) (current c) ≡ false → answer c .dropped ≡ 0
+  unmarked e =
+      let n : answer c .dropped ≡ 1 → ⊥ =
+      λ d. absurd-bool (sym e ∙ theorem-dropped (history c) (current c) .1 (given c t .dropped .0 d)) in
+      omega (arith, given c t .mark, n)
+
+  in-time : (answer c .outcome ≡ 2) ⊎ (answer c .outcome ≡ 4) → answer c .dropped ≡ 0
+  in-time (inl e) = unmarked (over-mark (said c t e .holds))
+  in-time (inr e) = unmarked (keep-mark (said c t e))
+
+  pub answers : Answers c
+  answers =
+      record {
+        joined = (said c t, (λ a. asked c t (joined-told (a .fields) (a .message) (a .holds)) .0));
+        joined-what = λ g m a. asked c t (joined-told g m a) .1;
+        single = (said c t, (λ a. asked c t (single-told (a .fields) (a .message) (a .holds)) .0));
+        single-what = λ g m a. asked c t (single-told g m a) .1;
+        opened = (said c t, (λ a. asked c t (opened-told a) .0));
+        kept = (said c t, (λ a. asked c t (kept-told a) .0));
+        copy = (said c t, (λ a. asked c t (copy-told a) .0));
+        copy-bits = (λ e. copies-bits c .0 (said c t e), λ b. asked c t (copy-told (copies-bits c .1 b)) .0);
+        nothing = (said c t, (λ a. asked c t (nothing-asked c t a) .0));
+        six = apart (given c t .told) .0;
+        quiet = λ a b. hands-nothing c t (apart (given c t .told) .1 a b);
+        dropped = given c t .dropped;
+        mark = given c t .mark;
+        in-time = in-time;
+        lost = lost c t;
+        none-lost = none-lost c t;
+        fault = given c t .fault;
+        unheard = λ n.
+            unheard (given c t .told) (unread (c .settings) (c .report) (λ e. n (given c t .fault ∙ e)));
+        receiver = given c t .receiver;
+      }
+
+-- ---- refused or not
+
+pub reached : {s : Settings} {ls : Line Event} {r : Receiver} → Calls s ls r → Reached r
+reached k = record { settings = _; heard = _; leads = leads k }
+
+-- the calls go on with this one
+pub after-call : (c : HearCall) → Made c → Calls (c .settings) (heard-after (refusal c) c) (c .reply .receiver)
+after-call c m = go (refusal c) refl
+  where
+    go : (n : ℕ) → refusal c ≡ n → Calls (c .settings) (heard-after n c) (c .reply .receiver)
+    go zero e = accepted (m .calls) (c .report) (c .reply) (c .old) (c .new) (m .hears) e
+    go (suc n) e = refused (m .calls) (c .report) (c .reply) (c .old) (c .new) (m .hears) n e
+
 pub demand3 : Demand3
 demand3 =
     record {
-      joined = λ c t. (said c t, (λ a. asked c t (joined-told (a .fields) (a .message) (a .holds)) .0));
-      joined-what = λ c t g m a. asked c t (joined-told g m a) .1;
+      answers = answers;
       once = theorem-once;
-      single = λ c t. (said c t, (λ a. asked c t (single-told (a .fields) (a .message) (a .holds)) .0));
-      single-what = λ c t g m a. asked c t (single-told g m a) .1;
-      opened = λ c t. (said c t, (λ a. asked c t (opened-told a) .0));
-      kept = λ c t. (said c t, (λ a. asked c t (kept-told a) .0));
-      copy = λ c t. (said c t, (λ a. asked c t (copy-told a) .0));
-      nothing = λ c t. (said c t, (λ a. asked c t (nothing-asked c t a) .0));
-      six = λ c t. apart (given c t .told) .0;
-      quiet = λ c t a b. hands-nothing c t (apart (given c t .told) .1 a b);
-      dropped = λ c t. given c t .dropped;
-      mark = λ c t. given c t .mark;
-      lost = lost;
-      none-lost = none-lost;
-      fault = λ c t. given c t .fault;
-      receiver = λ c t. given c t .receiver;
-      refused = λ c n e. let r = c .hears .refused n e in (r .answer, r .receiver, r .buffer);
+      refused = λ c m n e. let r = m .hears .refused n e in (r .answer, r .receiver, r .buffer);
+      store = λ c m. canonical (reached (after-call c m));
+      unique = unique;
+      possible = λ k l buffer.
+          let r = replies (reached k) l buffer in
+          (r .reply, r .new, record { calls = k; hears = r .hears });
     }
+  where
+    unique : (c d : HearCall) → Made c → Made d → c .before ≡ d .before → c .report ≡ d .report → c .old ≡ d .old
+        → (c .reply ≡ d .reply) × (c .new ≡ d .new)
+    unique c d m n x y z =
+        hear-unique (reached (m .calls)) (m .hears) (rw (x, y, z) (n .hears))

@@ -1,7 +1,10 @@
 -- The proofs of the demands and of the examples.
 pub mod Demand2Holds
+pub mod CopyLaws
 pub mod Demand3Holds
 pub mod Demand1Holds
+pub mod ReportedLaws
+pub mod CallLaws
 pub mod Req03Holds
 pub mod Req02Holds
 pub mod ExamplesHold

@@ -13,11 +13,9 @@ use Rattle.history.specs.declared.Lost.{Lost}
 use Rattle.history.proofs.Theorems.{theorem-dropped}
 use Rattle.history.proofs.FateHolds.{over-mark, anew-mark, not-yet, lost-or-handed-over}
 use Rattle.history.proofs.Verdicts.{absurd-bool}
-use Rattle.receiver.specs.Reached.{refusedWith}
-use Rattle.demands.specs.Calls.{HearCall, history, current, answer}
-use Rattle.demands.specs.Demand3.{Taken}
+use Rattle.demands.specs.Calls.{HearCall, Made, history, current, answer, refusal, Taken}
 use Rattle.demands.specs.Req02.{Says, Req02}
-use Rattle.demands.proofs.Demand3Holds.{given, demand3}
+use Rattle.demands.proofs.Demand3Holds.{given, answers, demand3}
 
 told-types : {hs : History} {r : Report} {x : Lost} → LostTold hs r x → (x ≡ no-loss) ⊎ IsAcknowledged (x .message)
 told-types (none-lost n) = inl refl
@@ -27,8 +25,8 @@ module _ (c : HearCall) (t : Taken c) where
   -- Where nothing is dropped nothing is told of a loss.
   not-dropped : (Drops (history c) (current c) → ⊥) → (answer c .dropped ≡ 0) × (answer c .lost ≡ no-loss)
   not-dropped n =
-      let z : answer c .dropped ≡ 1 → ⊥ = λ e. n (demand3 .dropped c t .0 e) in
-      (omega (arith, demand3 .mark c t, z), demand3 .none-lost c t .1 (λ x l. n (l .drops)))
+      let z : answer c .dropped ≡ 1 → ⊥ = λ e. n (answers c t .dropped .0 e) in
+      (omega (arith, answers c t .mark, z), answers c t .none-lost .1 (λ x l. n (l .drops)))
 
   unmarked : dropped-at (history c) (current c) ≡ false → Drops (history c) (current c) → ⊥
   unmarked e d = absurd-bool (sym e ∙ theorem-dropped (history c) (current c) .1 d)
@@ -36,21 +34,21 @@ module _ (c : HearCall) (t : Taken c) where
   ended : {u : Run} {w : Way} → EndsBy (history c) u (current c) w → Says c u w
   ended (by-end last x) =
       let (d, l) = not-dropped (unmarked (over-mark x)) in (
-        demand3 .joined c t .1 (record { fields = _; message = _; holds = x }),
+        answers c t .joined .1 (record { fields = _; message = _; holds = x }),
         d,
         l,
-        (last, demand3 .joined-what c t _ _ x),
+        (last, answers c t .joined-what _ _ x),
       )
   ended (by-loss x) = (
-    demand3 .dropped c t .1 (x .drops),
-    demand3 .lost c t _ .0 x .0,
+    answers c t .dropped .1 (x .drops),
+    answers c t .lost _ .0 x .0,
     λ e.
-        let s = demand3 .joined c t .0 e in
+        let s = answers c t .joined .0 e in
         unmarked (over-mark (s .holds)) (x .drops),
   )
   ended (by-repeat z) =
       let (d, l) = not-dropped (unmarked (anew-mark z)) in (
-        demand3 .opened c t .1
+        answers c t .opened .1
             (record {
               header = z .header;
               more = z .more;
@@ -68,15 +66,14 @@ module _ (c : HearCall) (t : Taken c) where
       not-dropped (λ d. not-yet before o since (current c) s (subst (λ (h : History). Drops h (current c)) e d))
 
   dropped : IsAcknowledged (answer c .lost .message) → answer c .dropped ≡ 1
-  dropped k = demand3 .dropped c t .1 (demand3 .lost c t (answer c .lost) .1 (refl, k) .drops)
+  dropped k = answers c t .dropped .1 (answers c t .lost (answer c .lost) .1 (refl, k) .drops)
 
-types : (c : HearCall) → (answer c .lost ≡ no-loss) ⊎ IsAcknowledged (answer c .lost .message)
-types c = go (refusedWith (c .report) (c .old)) refl
+types : (c : HearCall) → Made c → (answer c .lost ≡ no-loss) ⊎ IsAcknowledged (answer c .lost .message)
+types c m = go (refusal c) refl
   where
-    go : (n : ℕ) → refusedWith (c .report) (c .old) ≡ n
-        → (answer c .lost ≡ no-loss) ⊎ IsAcknowledged (answer c .lost .message)
-    go zero e = told-types (given c e .lost)
-    go (suc n) e = inl (rw (demand3 .refused c n e .0) refl)
+    go : (n : ℕ) → refusal c ≡ n → (answer c .lost ≡ no-loss) ⊎ IsAcknowledged (answer c .lost .message)
+    go zero e = told-types (given c (record { made = m; accepted = e }) .lost)
+    go (suc n) e = inl (rw (demand3 .refused c m n e .0) refl)
 
 pub req02 : Req02
 req02 =

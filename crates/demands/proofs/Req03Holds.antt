@@ -18,10 +18,10 @@ use Rattle.reports.proofs.FlagLaws.{same-alike}
 use Rattle.receiver.specs.Reached.{reportOf, refusedWith, Listed}
 use Rattle.receiver.specs.declared.Receiver.{Receiver}
 use Rattle.receiver.proofs.AcceptedLaws.{listed}
-use Rattle.demands.specs.Calls.{Calls, refused, accepted, HearCall, history, current, answer}
-use Rattle.demands.specs.Demand3.{Taken, HandsNothing}
+use Rattle.demands.specs.Calls.{HearCall, history, current, answer, Taken}
+use Rattle.demands.specs.Demand3.{HandsNothing}
 use Rattle.demands.specs.Req03.{HeaderHere, Fits, Req03}
-use Rattle.demands.proofs.Demand3Holds.{leads, demand3}
+use Rattle.demands.proofs.Demand3Holds.{answers, reached, after-call}
 
 module _ (c : HearCall) {h : Header} {f : ℕ} (b : HeaderHere c h f) where
   -- What it fits is not fragmented, as it is not.
@@ -30,11 +30,12 @@ module _ (c : HearCall) {h : Header} {f : ℕ} (b : HeaderHere c h f) where
       let s = c .settings in
       let i = x .is-earlier in
       let w = made-of (reportOf s) (c .earlier) (i .before) (e .since) (i .report) (i .split) in
-      let z : i .report .heard ≡ heard s (w .0) = ap (λ (r : Report). r .heard) (w .1) in
-      let g : header-in (heard s (w .0)) ≡ e .header = ap header-in (sym z) ∙ i .brings .0 in
+      let l = w .member in
+      let z : i .report .heard ≡ heard s l = ap (λ (r : Report). r .heard) (w .member-is) in
+      let g : header-in (heard s l) ≡ e .header = ap header-in (sym z) ∙ i .brings .0 in
       let k : header-in (current c .heard) ≡ h = ap header-in (b .holds) in
       ap is-fragmented z
-      ∙ same-alike s (w .0) (c .report) (ap (λ (h : Header). h .for-us) g ∙ i .brings .2)
+      ∙ same-alike s l (c .report) (ap (λ (h : Header). h .for-us) g ∙ i .brings .2)
       (ap (λ (h : Header). h .for-us) k ∙ b .for-us)
       (ap (λ (h : Header). h .raw) g ∙ x .same ∙ ap (λ (h : Header). h .raw) (sym k))
       ∙ ap is-fragmented (b .holds)
@@ -84,26 +85,15 @@ repeated : (c : HearCall) → Taken c → (before since : History) (p : Place) (
     → Repeated h f p since (current c) → (answer c .outcome ≡ 5) × HandsNothing c
 repeated c t before since p h f e w a =
     let y = theorem-copy (history c) (current c) .0 (rw e (theorem-again before since p h f (current c) w a)) in
-    let o = demand3 .copy c t .1 y in
-    (o, demand3 .quiet c t (λ z. omega (arith, o)) (λ z. omega (arith, o)))
-
--- The receiver, refused or not.
-seven : (c : HearCall) → Listed (c .reply .receiver .near)
-seven c = go (refusedWith (c .report) (c .old)) refl
-  where
-    kept : {s : Settings} {ls : Line Event} {r : Receiver} → Calls s ls r → Listed (r .near)
-    kept k = listed (record { settings = _; heard = _; leads = leads k })
-
-    go : (n : ℕ) → refusedWith (c .report) (c .old) ≡ n → Listed (c .reply .receiver .near)
-    go zero e = kept (accepted (c .calls) (c .report) (c .reply) (c .old) (c .new) (c .hears) e)
-    go (suc n) e = kept (refused (c .calls) (c .report) (c .reply) (c .old) (c .new) (c .hears) n e)
+    let o = answers c t .copy .1 y in
+    (o, answers c t .quiet (λ z. omega (arith, o)) (λ z. omega (arith, o)))
 
 pub req03 : Req03
 req03 =
     record {
-      any = λ c t b. (λ o. fits c b (demand3 .copy c t .0 o), λ x. demand3 .copy c t .1 (copies c b x));
+      any = λ c t b. (λ o. fits c b (answers c t .copy .0 o), λ x. answers c t .copy .1 (copies c b x));
       repeated = repeated;
-      original = λ c t o b. original c b (demand3 .copy c t .0 o);
-      seven = seven;
+      original = λ c t o b. original c b (answers c t .copy .0 o);
+      seven = λ c m. listed (reached (after-call c m));
       needed = seven-are-needed;
     }

@@ -2,7 +2,7 @@
 -- receiver that `fresh` or an earlier `hear` gave, and nothing else.
 use mathlib.Core.Path.{_≡_}
 use mathlib.Core.List.{List}
-use Prim.Native.Nat.{ℕ, suc}
+use Prim.Native.Nat.{ℕ, zero, suc}
 use Rattle.history.specs.Line.{Line, start, _▸_}
 use Rattle.history.specs.Slots.{Report}
 use Rattle.history.specs.History.{History}
@@ -27,17 +27,21 @@ pub data Calls : Settings → Line Event → Receiver → Type 0 where
       → (l : Lent) (r : Reply) (old new : List ℕ) → Hears before l r old new
       → refusedWith l old ≡ 0 → Calls s (ls ▸ l) (r .receiver)
 
--- One call of `hear` more: the report and the reply, the lent buffer before and after.
+-- A call of `hear`: the settings of its receiver, the accepted reports before it, oldest first, and the receiver as it
+-- was; the report, the reply, and the lent buffer before and after.
 pub record HearCall : Type 0 where
   pub settings : Settings
   pub earlier : Line Event
   pub before : Receiver
-  pub calls : Calls settings earlier before
   pub report : Lent
   pub reply : Reply
   pub old : List ℕ
   pub new : List ℕ
-  pub hears : Hears before report reply old new
+
+-- The call was made: its receiver came of such calls, and `hear` did what it promises.
+pub record Made (c : HearCall) : Type 0 where
+  pub calls : Calls (c .settings) (c .earlier) (c .before)
+  pub hears : Hears (c .before) (c .report) (c .reply) (c .old) (c .new)
 
 -- The accepted reports before it, and its own, as they read; the answer.
 abbrev pub history : HearCall → History
@@ -48,3 +52,17 @@ current c = reportOf (c .settings) (c .report)
 
 abbrev pub answer : HearCall → Answer
 answer c = c .reply .answer
+
+-- The number that it is refused with; 0 where its report is accepted.
+abbrev pub refusal : HearCall → ℕ
+refusal c = refusedWith (c .report) (c .old)
+
+-- The accepted reports after it: its own is one more of them where it is accepted.
+abbrev pub heard-after : ℕ → HearCall → Line Event
+heard-after zero c = c .earlier ▸ c .report
+heard-after (suc n) c = c .earlier
+
+-- The call was made, and its report accepted.
+pub record Taken (c : HearCall) : Type 0 where
+  pub made : Made c
+  pub accepted : refusal c ≡ 0

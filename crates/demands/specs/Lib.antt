@@ -4,6 +4,7 @@ pub mod Demand2
 pub mod Calls
 pub mod Demand3
 pub mod Demand1
+pub mod OfCalls
 pub mod Req03
 pub mod Req02
 pub mod RunRows

@@ -9,8 +9,8 @@ use Rattle.history.specs.Line.{_▸_, _⧺_}
 use Rattle.history.specs.Slots.{no-loss, Report}
 use Rattle.history.specs.History.{History, join, Run, IsAcknowledged, loss}
 use Rattle.history.specs.Fate.{Way, still-open, handed-over, lost, opened-anew, EndsBy, Still, LostOrHandedOver}
-use Rattle.demands.specs.Calls.{HearCall, history, current, answer}
-use Rattle.demands.specs.Demand3.{HandsOver, Taken}
+use Rattle.demands.specs.Calls.{HearCall, Made, history, current, answer, Taken}
+use Rattle.demands.specs.Demand3.{HandsOver}
 
 -- What the answer says of an assembly that ends here, as the run u, in one of the ways; while it is still open, and
 -- where it is not lost, nothing of a loss.
@@ -32,5 +32,5 @@ pub record Req02 : Type 0 where
       → history c ≡ (before ▸ o) ⧺ since → Still before o (since ▸ current c) u → Says c u still-open
   -- The message type shows whether a loss is told: it is 23 or 24, or all three numbers are 0, refused reports too. And
   -- what is told lost was dropped.
-  pub types : (c : HearCall) → (answer c .lost ≡ no-loss) ⊎ IsAcknowledged (answer c .lost .message)
+  pub types : (c : HearCall) → Made c → (answer c .lost ≡ no-loss) ⊎ IsAcknowledged (answer c .lost .message)
   pub dropped : (c : HearCall) → Taken c → IsAcknowledged (answer c .lost .message) → answer c .dropped ≡ 1

@@ -12,8 +12,8 @@ use Rattle.history.specs.Once.{Repeated, Original}
 use Rattle.history.specs.Seven.{SevenAreNeeded}
 use Rattle.history.specs.declared.Place.{Place}
 use Rattle.receiver.specs.Reached.{Listed}
-use Rattle.demands.specs.Calls.{HearCall, history, current, answer}
-use Rattle.demands.specs.Demand3.{Taken, HandsNothing}
+use Rattle.demands.specs.Calls.{HearCall, Made, history, current, answer, Taken}
+use Rattle.demands.specs.Demand3.{HandsNothing}
 
 -- The report brings an unfragmented header h for this unit, with countdown f.
 pub record HeaderHere (c : HearCall) (h : Header) (f : ℕ) : Type 0 where
@@ -42,5 +42,5 @@ pub record Req03 : Type 0 where
   pub original : (c : HearCall) → Taken c → answer c .outcome ≡ 5 → {h : Header} {f : ℕ} → HeaderHere c h f
       → Original (history c) (current c) h f
   -- A receiver keeps seven headers at most, which stand first, and zeros after them; six would not do.
-  pub seven : (c : HearCall) → Listed (c .reply .receiver .near)
+  pub seven : (c : HearCall) → Made c → Listed (c .reply .receiver .near)
   pub needed : SevenAreNeeded

@@ -59,6 +59,7 @@ use Rattle.history.proofs.OpenRun.{join-more}
 use Rattle.reports.specs.Lent.{for-unit, rawOf, unfaulted, headerHeard, heard}
 use Rattle.reports.specs.declared.unit.Settings.{Settings}
 use Rattle.history.specs.declared.Place.{Place}
+use Rattle.demands.proofs.ReportedLaws.{read-as, reported-reads}
 use Rattle.ends.specs.EndToEnd.{Message, bits, k, Build, output, block-in, header-lent, block-lent}
 
 -- ---- A header with its countdown put to 0 is the same for every countdown.
@@ -102,43 +103,15 @@ module _ (f count : ℕ) (g : Fields) (m : List Bool) where
       (over-left 0 z (bitsN 2 c) rest (omega arith)
       ∙ ap (λ (x : List Bool). x ++ rest) (over-all z (bitsN 2 c) (sym lc)))
 
--- ---- A header that reads well reads the same in a report of its own slot.
-
-between : (a p b : List ℕ) → firstOf (a ++ b) ≡ 0 → firstOf p ≡ 0 → firstOf (a ++ (p ++ b)) ≡ 0
-between [] p b e z = chain-none p b z ∙ e
-between (zero ∷ ns) p b e z = between ns p b e z
-between (suc n ∷ ns) p b e z = e
-
-fault-of : (n : ℕ) (y : Sync) (b : List Bool) → answered n (headerOf y b) .fault ≡ n
-fault-of zero y b = refl
-fault-of (suc n) y b = refl
+-- ---- A header that reads well.
 
 module _ (s h : List ℕ) (good : readHeader s h .fault ≡ 0) where
-  no-fault : headerFault s h ≡ 0
-  unfolding readHeader
-  no-fault = sym (fault-of (headerFault s h) (syncOf (bitsOf s)) (bitsOf h)) ∙ good
-
-  read-as : readHeader s h ≡ headerOf (syncOf (bitsOf s)) (bitsOf h)
-  unfolding readHeader
-  read-as = ap (λ (n : ℕ). answered n (headerOf (syncOf (bitsOf s)) (bitsOf h))) no-fault
-
-  reported-reads : (frame slot : ℕ) → readHeader s h .sync .frame ≡ frame → readHeader s h .sync .slot + 1 ≡ slot
-      → readReported frame slot s h ≡ readHeader s h
-  unfolding readReported
-  reported-reads frame slot ef es =
-      let y = syncOf (bitsOf s) in
-      let ef′ = eq-eqb (y .frame) frame (ap (λ (r : read.Header). r .sync .frame) (sym read-as) ∙ ef) in
-      let es′ = eq-eqb (y .slot + 1) slot (ap (λ (r : read.Header). r .sync .slot + 1) (sym read-as) ∙ es) in
-      ap (λ (n : ℕ). answered n (headerOf y (bitsOf h)))
-      (between (syncChecks s h) (placeRules frame slot y) (bodyChecks (bitsOf h)) no-fault (rw (ef′, es′) refl))
-      ∙ sym read-as
-
   flag-read : fragmentedIn (bitsOf h) ≡ readHeader s h .fragmented
   unfolding fragmentedIn bodyOf
-  flag-read = ap (λ (r : read.Header). r .fragmented) (sym read-as)
+  flag-read = ap (λ (r : read.Header). r .fragmented) (sym (read-as s h good))
 
   bits-read : length (bitsIn (messageOf (bodyOf (bitsOf h)) (bitsOf h))) ≡ readHeader s h .bits
-  bits-read = ap (λ (r : read.Header). r .bits) (sym read-as)
+  bits-read = ap (λ (r : read.Header). r .bits) (sym (read-as s h good))
 
 -- ---- Block i of a run of blocks.
 

@@ -12,7 +12,7 @@ use Rattle.history.specs.History.{History, final, InTurn, Unbroken, frames, Cop
 use Rattle.history.specs.Step.{Outcome, quiet, single, joined, opened, kept, copy, number, outcome-at}
 use Rattle.history.specs.declared.Place.{Place}
 use Rattle.history.proofs.Theorems.{theorem-single}
-use Rattle.history.proofs.Lines.{⧺-assoc, start-⧺, never, both, never-in}
+use Rattle.history.proofs.Lines.{⧺-assoc, start-⧺, never, both, never-in, each-⧺}
 use Rattle.history.proofs.OnceHolds.{theorem-again, theorem-original}
 use Rattle.reports.specs.Lent.{Lent, heard}
 use Rattle.reports.specs.declared.unit.Settings.{Settings}
@@ -25,7 +25,6 @@ use Rattle.ends.proofs.HeardLaws.{meant, unfragmented-heard}
 use Rattle.ends.proofs.LayoutLaws.{built-for}
 use Rattle.ends.proofs.DifferentLaws.{same-fields}
 use Rattle.ends.proofs.EndToEndHolds.{end-to-end}
-use Rattle.ends.proofs.DeliveredHolds.{reports-append}
 
 abbrev place : Lent → Place
 place l = record { frame = l .frame; slot = l .slot }
@@ -75,7 +74,7 @@ again-comes s hs m b b′ before since sh a u c =
     let p = header-slot m b in
     let split : hs ⧺ reports s ((before ▸ header-lent m b) ⧺ since)
     ≡ ((hs ⧺ reports s before) ▸ in-slot p (unfragmented h (b .countdown))) ⧺ reports s since =
-    ap (λ (l : History). hs ⧺ l) (reports-append s (before ▸ header-lent m b) since)
+    ap (λ (l : History). hs ⧺ l) (each-⧺ (reportOf s) (before ▸ header-lent m b) since)
     ∙ ⧺-assoc hs (reports s before ▸ header-report s m b) (reports s since)
     ∙ ap (λ (r : Report). ((hs ⧺ reports s before) ▸ r) ⧺ reports s since) (header-is s m b sh) in
     ap (λ (l : History). outcome-at l (header-report s m b′)) split

@@ -8,9 +8,9 @@ use Rattle.bits.proofs.Numbers.{fits-in}
 use Rattle.blocks.proofs.HeaderLaws.{addressWidth-le}
 use Rattle.history.specs.Line.{Line, start, _▸_, _⧺_, each, Every}
 use Rattle.history.specs.History.{History}
-use Rattle.history.proofs.Lines.{never}
+use Rattle.history.proofs.Lines.{never, every-parts, each-⧺}
 use Rattle.reports.specs.declared.unit.Settings.{Settings}
-use Rattle.receiver.specs.Reached.{reports}
+use Rattle.receiver.specs.Reached.{reportOf, reports}
 use Rattle.transport.specs.Layouts.{ackOf, per, at}
 use Rattle.transport.specs.Reading.{flagOf, readBits}
 use Rattle.transport.specs.Building.{shapeFor, builtBits}
@@ -22,7 +22,6 @@ use Rattle.ends.specs.EndToEnd as ends
 use Rattle.ends.specs.EndToEnd.{Handed, header-lent}
 use Rattle.ends.proofs.HeardLaws.{range}
 use Rattle.ends.proofs.EndToEndHolds.{end-to-end}
-use Rattle.ends.proofs.DeliveredHolds.{reports-append}
 use Rattle.hires.specs.Program.{Step, accepted, calls, Program, messageIn}
 use Rattle.hires.specs.June.{Hire, message, userBits, Arrives, readBack, BookedAs}
 use Rattle.hires.proofs.HandedLaws.{Whole, readIn, reading-is}
@@ -39,10 +38,6 @@ single : (cs : Line Call) (x : Handed) → each messageIn cs ≡ start ▸ x →
 single start x e = absurd (never start x (sym e))
 single (start ▸ c) x e = record { call = c; once = refl; is = cc }
 single (cs ▸ b ▸ c) x e = absurd (never (each messageIn cs) (messageIn b) (cc))
-
-later-whole : (xs ys : Line Call) → Every (λ c. Whole (c .lent)) (xs ⧺ ys) → Every (λ c. Whole (c .lent)) ys
-later-whole xs start e = tt
-later-whole xs (ys ▸ y) e = (later-whole xs ys (e .0), e .1)
 
 -- ---- a hire
 
@@ -93,7 +88,7 @@ module _ (s : Settings) (before xs : Line Step) (h : Hire) (p : Program s (befor
   handed-once =
       handed-on s before xs p
       ∙ ap (λ (l : Line _). ends.handed heard-before (reports s l)) (a .heard)
-      ∙ ap (ends.handed heard-before) (reports-append s (start ▸ header-lent (message h) (a .build)) (a .rest))
+      ∙ ap (ends.handed heard-before) (each-⧺ (reportOf s) (start ▸ header-lent (message h) (a .build)) (a .rest))
       ∙ end-to-end .hands-over s (message h) (a .build) heard-before (a .for-us) .once (a .no-copy) (a .whole)
 
   one : Single (calls xs) (sent h)
@@ -101,8 +96,10 @@ module _ (s : Settings) (before xs : Line Step) (h : Hire) (p : Program s (befor
 
   all-lent : Whole (one .call .lent)
   all-lent =
-      let w = later-whole (calls before) (calls xs) (rw (calls-append before xs) at (in-full s (before ⧺ xs) p)) in
-      (rw (one .once) at w) .1
+      let w =
+      every-parts (λ c. Whole (c .lent)) (calls before) (calls xs)
+      (rw (calls-append before xs) at (in-full s (before ⧺ xs) p)) in
+      (rw (one .once) at (w .1)) .1
 
   reading : readingOf (one .call .lent) ≡ readBack h
   reading = reading-is (one .call .lent) all-lent ∙ ap readIn (one .is) ∙ read-sent h (a .build)

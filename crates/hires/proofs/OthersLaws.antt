@@ -12,7 +12,7 @@ use Rattle.history.specs.Line.{Line, start, _▸_, _⧺_, each}
 use Rattle.history.specs.Slots.{Heard, header-in, frag, end, Report}
 use Rattle.history.specs.History.{History, NotForUs}
 use Rattle.history.specs.Step.{Assembly, no-run, no-assembly, is-due, is-last, quiet, outcome-at}
-use Rattle.history.proofs.Lines.{⧺-assoc}
+use Rattle.history.proofs.Lines.{⧺-assoc, each-⧺}
 use Rattle.history.proofs.Verdicts.{absurd-bool, unfit, comes, opens-none, rest-at, lost-at}
 use Rattle.history.proofs.OpenRun.{At, none-left, known-at, drops-at}
 use Rattle.history.proofs.Outcomes.{quiet-at}
@@ -25,7 +25,6 @@ use Rattle.ends.specs.EndToEnd as sent
 use Rattle.ends.specs.EndToEnd.{Message, Build, k, header-lent, nothing-lent, block-lent, due-slot, Sent, Handed}
 use Rattle.ends.specs.EndToEnd.{with-outcome, handed, header-report, all-reports, so-far}
 use Rattle.ends.proofs.HeardLaws.{meant, fragmented-heard, unfragmented-heard}
-use Rattle.ends.proofs.DeliveredHolds.{reports-append}
 use Rattle.ends.proofs.EndToEndHolds.{silent}
 use Rattle.ends.proofs.SentLaws.{hushed}
 use Rattle.hires.specs.Program.{Step, accepted, calls, Program, messageIn}
@@ -127,5 +126,5 @@ not-ours s before xs p h b w rest i e t =
     no-call (calls xs)
     (handed-on s before xs p
     ∙ ap (λ (l : Line Lent). handed hs (reports s l)) e
-    ∙ ap (handed hs) (reports-append s (start ▸ header-lent (message h) b) rest)
+    ∙ ap (handed hs) (each-⧺ (reportOf s) (start ▸ header-lent (message h) b) rest)
     ∙ none-handed s (message h) w b hs t)

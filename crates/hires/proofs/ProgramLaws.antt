@@ -14,6 +14,7 @@ use Rattle.history.specs.Line.{Line, start, _▸_, _⧺_, each, Every}
 use Rattle.history.specs.History.{History}
 use Rattle.history.specs.Step as told
 use Rattle.history.specs.Step.{Outcome, number, message-of, fields-of, outcome-at}
+use Rattle.history.proofs.Lines.{each-⧺}
 use Rattle.history.proofs.Theorems.{theorem-told-only}
 use Rattle.reports.specs.Lent.{Lent}
 use Rattle.reports.specs.declared.unit.Settings.{Settings}
@@ -31,7 +32,6 @@ use Rattle.bookings.proofs.CallLaws.{earlier-in-turn}
 use Rattle.bookings.proofs.IndexHolds.{over-calls}
 use Rattle.ends.specs.EndToEnd as ends
 use Rattle.ends.specs.EndToEnd.{Handed, with-outcome}
-use Rattle.ends.proofs.DeliveredHolds.{reports-append}
 use Rattle.hires.specs.Program.{Hearing, HandsOver, handedOn, Step, quiet, books, hearing, accepted}
 use Rattle.hires.specs.Program.{calls, receiverAfter, HearsInTurn, Program, messageIn, transfersIn}
 use Rattle.hires.proofs.HandedLaws.{handed-lent, Whole, inLent, transfers-in}
@@ -186,7 +186,7 @@ module _ (s : Settings) where
   handed-when before xs x k ih zero e =
       hands-on s (accepted before ⧺ accepted xs) x xs k e
       ∙ ap₂ (λ (l : Line Handed) (h : History). with-outcome l (outcome-at h (reportOf s (hearing x .report)))) ih
-      (reports-append s (accepted before) (accepted xs))
+      (each-⧺ (reportOf s) (accepted before) (accepted xs))
   handed-when before xs x k ih (suc n) e =
       rw (eqb·suc-zero n) (ap (each messageIn) (refused-on s (accepted before ⧺ accepted xs) x xs n e) ∙ ih)
 

@@ -17,16 +17,16 @@ use Rattle.history.specs.declared.Verdict.{Verdict}
 use Rattle.history.specs.Step.{Assembly, Answer, no-assembly, in-turn, renews, broken-off, changed}
 use Rattle.history.specs.Step.{after, step, answer, dropped-at}
 use Rattle.history.specs.History.{History, final, InTurn, Unbroken, NotFragmented, Run, IsOpen, next-due, join}
-use Rattle.history.specs.History.{Closes, Opens, DueKind, Ends, broken, other-header, missed, Drops}
+use Rattle.history.specs.History.{Closes, Keeps, Opens, DueKind, Ends, broken, other-header, missed, Drops}
 use Rattle.history.specs.History.{IsAcknowledged}
 use Rattle.history.specs.Fate.{Way, still-open, handed-over, lost, opened-anew, Renews, EndsBy, by-end, by-loss}
 use Rattle.history.specs.Fate.{by-repeat, Still, Fate, not-ended, ended, HasFate, LostOrHandedOver}
-use Rattle.history.proofs.Lines.{both, ⧺-assoc, ⧺-cancel}
+use Rattle.history.proofs.Lines.{both, ⧺-assoc, ⧺-cancel, every-parts}
 use Rattle.history.proofs.Verdicts.{absurd-bool, Comes, passing, missing, keeping, closing, heading}
-use Rattle.history.proofs.Verdicts.{rest, rest-at, comes-at}
+use Rattle.history.proofs.Verdicts.{rest, rest-at, lost-at, comes-at}
 use Rattle.history.proofs.OpenRun.{same-place-true, turn-true, turn-is, unbroken-on, on, shape}
 use Rattle.history.proofs.OpenRun.{grown, grows, At, found}
-use Rattle.history.proofs.Outcomes.{repeat-is, repeat-true, closing-at, header-mark, drops-is}
+use Rattle.history.proofs.Outcomes.{repeat-is, repeat-true, closing-at, keeping-at, header-mark, drops-is}
 use Rattle.history.proofs.Theorems.{closed, stays-closed}
 
 -- ---- What an open run comes to at a report.
@@ -120,16 +120,16 @@ module _ {hs : History} (u : Run) (r : Report) (o : IsOpen hs u) where
 
 -- ---- Never neither.
 
--- The run's header is the report's.
-own : {before : History} {o : Report} {since : History} {u : Run} → Still before o since u
-    → o .heard ≡ fragmented (u .header) (u .more) (u .countdown)
+-- The run's header is the report's, and the history before it is the run's.
+abbrev header : Run → Report
+header u = record { place = u .place; heard = fragmented (u .header) (u .more) (u .countdown) }
+
+own : {before : History} {o : Report} {since : History} {u : Run} (s : Still before o since u)
+    → before ▸ o ≡ s .is-open .before ▸ header u
 own {before} {o} {since} {u} s =
-    let p : Report =
-    record { place = u .place; heard = fragmented (u .header) (u .more) (u .countdown) } in
-    let e =
-    ⧺-cancel (before ▸ o) (s .is-open .before ▸ p) since
-    (s .is-open .split ∙ ap (λ (l : History). (s .is-open .before ▸ p) ⧺ l) (s .its-own)) in
-    ap (λ (r : Report). r .heard) (both e .1)
+    let b = s .is-open .before in
+    ⧺-cancel (before ▸ o) (b ▸ header u) since
+    (s .is-open .split ∙ ap (λ (l : History). (b ▸ header u) ⧺ l) (s .its-own))
 
 module _ (before : History) (o : Report) (y : Opens o) (k : IsAcknowledged (y .header .fields .message)) where
   opened : Still before o start
@@ -157,7 +157,7 @@ module _ (before : History) (o : Report) (y : Opens o) (k : IsAcknowledged (y .h
       }
 
   one-of-two : {since : History} {u : Run} → Still before o since u → IsAcknowledged (u .header .fields .message)
-  one-of-two s = subst (λ (x : Heard). IsAcknowledged (header-in x .fields .message)) (sym (y .holds) ∙ own s) k
+  one-of-two s = subst (λ (x : Heard). IsAcknowledged (header-in x .fields .message)) (sym (y .holds) ∙ ap (λ (r : Report). r .heard) (both (own s) .1)) k
 
   grows-fate : {since : History} (r : Report) (u : Run) (s : Still before o since u)
       → Next ((before ▸ o) ⧺ since) u r → HasFate before o (since ▸ r)
@@ -211,10 +211,14 @@ module _ (before : History) (o : Report) (y : Opens o) (k : IsAcknowledged (y .h
 -- ---- Never both, and once.
 
 -- The mark at a report that hands over, and at one that opens anew.
+unbroken-mark : (hs : History) (r : Report) → Unbroken hs (r .place) → lost-at hs (r .place) ≡ false
+unbroken-mark hs r k = ap (λ (t : Bool). broken-off t (after hs .assembly .run)) (turn-is hs (r .place) k)
+
 pub over-mark : {hs : History} {r : Report} {g : Fields} {m : List Bool} → Closes hs r g m → dropped-at hs r ≡ false
-over-mark {hs} {r} c =
-    ap (λ (y : Answer). y .dropped) (closing-at hs r c)
-    ∙ ap (λ (t : Bool). broken-off t (after hs .assembly .run)) (turn-is hs (r .place) (c .unbroken))
+over-mark {hs} {r} c = ap (λ (y : Answer). y .dropped) (closing-at hs r c) ∙ unbroken-mark hs r (c .unbroken)
+
+pub keep-mark : {hs : History} {r : Report} → Keeps hs r → dropped-at hs r ≡ false
+keep-mark {hs} {r} c = ap (λ (y : Answer). y .dropped) (keeping-at hs r c) ∙ unbroken-mark hs r (c .unbroken)
 
 pub anew-mark : {hs : History} {u : Run} {r : Report} → Renews hs u r → dropped-at hs r ≡ false
 anew-mark {hs} {u} {r} w =
@@ -263,10 +267,6 @@ none-after (by-loss x) k n = dropped-none (x .drops) k n
 none-after (by-repeat z) k n = absurd-bool (sym n ∙ ap is-fragmented (z .holds))
 
 -- What ended is never open again: after these reports, and any others.
-parted : (P : Report → Type 0) (until more : History) (r : Report) → Every P ((until ▸ r) ⧺ more) → P r × Every P more
-parted P until start r e = (e .1, tt)
-parted P until (more ▸ x) r e = let (a, b) = parted P until more r (e .0) in (a, (b, e .1))
-
 turned : (p : Place) (until more : History) (r : Report) → InTurn p ((until ▸ r) ⧺ more)
     → r .place ≡ next (final p until)
 turned p until start r e = e .1
@@ -274,29 +274,22 @@ turned p until (more ▸ x) r e = turned p until more r (e .0)
 
 module _ (before : History) (o : Report) (until : History) (r : Report) {v : Run} (more : History)
     (s : Still before o ((until ▸ r) ⧺ more) v) where
-  abbrev header : Report
-  header = record { place = v .place; heard = fragmented (v .header) (v .more) (v .countdown) }
-
   -- Up to the report the history is that of the run.
-  same : (before ▸ o) ⧺ until ≡ (s .is-open .before ▸ header) ⧺ until
-  same =
-      let b = s .is-open .before in
-      let e : (before ▸ o) ⧺ ((until ▸ r) ⧺ more) ≡ (b ▸ header) ⧺ ((until ▸ r) ⧺ more) =
-      s .is-open .split ∙ ap (λ (l : History). (b ▸ header) ⧺ l) (s .its-own) in
-      ap (λ (l : History). l ⧺ until) (⧺-cancel (before ▸ o) (b ▸ header) ((until ▸ r) ⧺ more) e)
+  same : (before ▸ o) ⧺ until ≡ (s .is-open .before ▸ header v) ⧺ until
+  same = ap (λ (l : History). l ⧺ until) (own s)
 
   never-again : (let hs = (before ▸ o) ⧺ until in
       Unbroken hs (r .place) → NotFragmented (r .heard) → At (hs ▸ r) no-assembly) → ⊥
   never-again none =
-      let (n, l) =
-      parted (λ z. NotFragmented (z .heard)) until more r
+      let (w, l) =
+      every-parts (λ z. NotFragmented (z .heard)) (until ▸ r) more
       (subst (λ (h : History). Every (λ z. NotFragmented (z .heard)) h) (s .its-own) (s .is-open .latest)) in
       let t =
       turned (v .place) until more r (subst (λ (h : History). InTurn (v .place) h) (s .its-own) (s .is-open .turns)) in
       let k : Unbroken ((before ▸ o) ⧺ until) (r .place) =
       subst⁻¹ (λ (h : History). Unbroken h (r .place)) same
-      (unbroken-on (s .is-open .before) until header (r .place) t) in
-      let a = stays-closed (((before ▸ o) ⧺ until) ▸ r) more (none k n) l in
+      (unbroken-on (s .is-open .before) until (header v) (r .place) t) in
+      let a = stays-closed (((before ▸ o) ⧺ until) ▸ r) more (none k (w .1)) l in
       let b : At ((((before ▸ o) ⧺ until) ▸ r) ⧺ more) (shape v) =
       subst (λ (h : History). At h (shape v)) (⧺-assoc (before ▸ o) (until ▸ r) more) (found _ v (s .is-open)) in
       omega (arith, ap (λ (a : Assembly). a .run .held) (sym a ∙ b))

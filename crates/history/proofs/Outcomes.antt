@@ -125,15 +125,20 @@ module _ (hs : History) (r : Report) where
   closes g m c =
       ap (λ (y : Answer). y .outcome) (closing-at c) ∙ ap₂ joined (sym (c .its-fields)) (sym (c .its-bits))
 
-  pub keeps : Keeps hs r → outcome-at hs r ≡ kept
-  keeps c =
+  -- The answer at a report whose block is kept.
+  pub keeping-at : (c : Keeps hs r) → let a = shape (on (c .run) r) in
+      answer (after hs) r ≡ answered (leaving hs r a) (frag (c .block)) (on-frag true false (lost-at hs (r .place)))
+  keeping-at c =
       let u = c .run in
       let x = frag (c .block) in
       let a = shape (on u r) in
       let l = c .not-full in
-      ap (λ (y : Answer). y .outcome) (answer-at a x (run-at u (c .is-open) (c .unbroken)) (c .holds))
-      ∙ ap₂ (λ (d l : Bool). answered (leaving hs r a) x (on-frag d l (lost-at hs (r .place))) .outcome)
+      answer-at a x (run-at u (c .is-open) (c .unbroken)) (c .holds)
+      ∙ ap₂ (λ (d l : Bool). answered (leaving hs r a) x (on-frag d l (lost-at hs (r .place))))
       (same-place-is (r .place) (next-due u) (c .in-due)) (ne-eqb (count (u .blocks)) (u .more) (omega arith))
+
+  pub keeps : Keeps hs r → outcome-at hs r ≡ kept
+  keeps c = ap (λ (y : Answer). y .outcome) (keeping-at c)
 
   -- The answer to an unfragmented header for this unit turns on the test for a copy.
   pub hands-at : (h : Header) (f : ℕ) (b : Bool) → r .heard ≡ unfragmented h f → h .for-us ≡ true

@@ -7,6 +7,7 @@ use native.Mathlib.Omega.{arith}
 use lib.Dec.{eqb}
 use lib.ListN.{length, take, drop, length-drop}
 use lib.Seq.{length-take-le}
+use borrow.Author.Tests.{eqb-true, eqb-false}
 use Rattle.bits.specs.Bits.{bitsOf, over, num}
 use Rattle.bits.proofs.Numbers.{num-lt, take-of-drop}
 use Rattle.bits.proofs.Bytes.{length-bitsOf}
@@ -14,9 +15,11 @@ use Rattle.bits.proofs.Over.{length-over, over-take}
 use Rattle.blocks.specs.Header.{fragmentedIn}
 use Rattle.blocks.specs.Continuation.{readContinuation}
 use Rattle.store.proofs.Blocks.{halves-same}
-use Rattle.history.specs.Slots.{Header, Heard, nothing, fragmented, unfragmented, frag, end, header-in, is-fragmented}
+use Rattle.history.specs.Slots.{Header, Heard, nothing, fragmented, unfragmented, frag, end}
+use Rattle.history.specs.Slots.{header-in, countdown-in, is-fragmented}
 use Rattle.history.proofs.Verdicts.{absurd-bool}
-use Rattle.reports.specs.Lent.{Lent, rawOf, unfaulted, headerIn, headerHeard, blockHeard, heard}
+use Rattle.reports.specs.Lent.{Lent, uncounted, rawOf, unfaulted, headerFrom, headerIn, headerHeard}
+use Rattle.reports.specs.Lent.{schHIn, blockHeard, heard, BringsShort}
 use Rattle.reports.specs.declared.unit.Settings.{Settings}
 use Rattle.reports.proofs.Readings.{well-read}
 
@@ -34,9 +37,6 @@ flag-low b l =
     omega arith
 
 -- The countdown's two bits come after it, in either header: to leave them out leaves it as it is.
-abbrev uncounted : List Bool → List Bool
-uncounted b = over (12 + 4 * fragmentedIn b) (false ∷ false ∷ []) b
-
 module _ (b : List Bool) (l : length b ≡ 128) where
   uncounted-length : length (uncounted b) ≡ 128
   uncounted-length =
@@ -52,15 +52,18 @@ module _ (b : List Bool) (l : length b ≡ 128) where
 block-length : (h : List ℕ) → length h ≡ 16 → length (bitsOf h) ≡ 128
 block-length h l = omega (arith, length-bitsOf h)
 
+-- The same numbers are the same bits.
+pub same-bits : (h k : List ℕ) → length h ≡ 16 → length k ≡ 16 → rawOf h ≡ rawOf k
+    → uncounted (bitsOf h) ≡ uncounted (bitsOf k)
+same-bits h k l n e =
+    halves-same (uncounted (bitsOf h)) (uncounted (bitsOf k))
+    (uncounted-length (bitsOf h) (block-length h l) ∙ sym (uncounted-length (bitsOf k) (block-length k n))) e
+
 same-flag : (h k : List ℕ) → length h ≡ 16 → length k ≡ 16 → rawOf h ≡ rawOf k
     → fragmentedIn (bitsOf h) ≡ fragmentedIn (bitsOf k)
 same-flag h k l n e =
-    let a = bitsOf h in
-    let b = bitsOf k in
-    let la = block-length h l in
-    let lb = block-length k n in
-    let u = halves-same (uncounted a) (uncounted b) (uncounted-length a la ∙ sym (uncounted-length b lb)) e in
-    sym (uncounted-flag a la) ∙ ap fragmentedIn u ∙ uncounted-flag b lb
+    sym (uncounted-flag (bitsOf h) (block-length h l)) ∙ ap fragmentedIn (same-bits h k l n e)
+    ∙ uncounted-flag (bitsOf k) (block-length k n)
 
 -- ---- So it is with two that were read.
 
@@ -115,3 +118,64 @@ same-alike s l m a b e =
     ∙ ap (λ (n : ℕ). eqb n 1)
     (same-flag (x .block) (y .block) (x .long) (y .long) (sym (x .raw) ∙ e ∙ y .raw))
     ∙ sym (y .flag)
+
+-- ---- A report that brings an unfragmented header for this unit.
+
+abbrev is-short : Heard → Bool
+is-short nothing = false
+is-short (fragmented h more f) = false
+is-short (unfragmented h f) = true
+is-short (frag b) = false
+is-short (end b) = false
+
+-- What it is heard as says what was lent.
+pub record HeardShort (s : Settings) (l : Lent) (h : Header) (f : ℕ) : Type 0 where
+  pub brings : BringsShort s l
+  pub header : h ≡ headerFrom s (schHIn l) (headerIn l)
+  pub countdown : f ≡ headerIn l .countdown
+
+short-header : (fault more f g : ℕ) (flag : Bool) (x h : Header)
+    → unfaulted fault (cond flag (fragmented x more f) (unfragmented x f)) ≡ unfragmented h g
+    → (fault ≡ 0) × (flag ≡ false) × (h ≡ x) × (g ≡ f)
+short-header (suc n) more f g flag x h e = absurd-bool (ap is-short e)
+short-header zero more f g true x h e = absurd-bool (ap is-short e)
+short-header zero more f g false x h e = (refl, refl, ap header-in (sym e), ap countdown-in (sym e))
+
+not-a-block : (n : ℕ) (last : Bool) (m : List Bool) → is-short (unfaulted n (cond last (end m) (frag m))) ≡ false
+not-a-block zero true m = refl
+not-a-block zero false m = refl
+not-a-block (suc n) last m = refl
+
+pub heard-short : (s : Settings) (l : Lent) (h : Header) (f : ℕ) → heard s l ≡ unfragmented h f → h .for-us ≡ true
+    → HeardShort s l h f
+unfolding heard
+heard-short s l h f e w = go (eqb (l .kind) 2) (eqb (l .kind) 3) refl e
+  where
+    go : (two three : Bool) → eqb (l .kind) 2 ≡ two
+        → cond two (headerHeard s (schHIn l) (headerIn l))
+        (cond three (blockHeard (l .blocks) (readContinuation (l .blocks))) nothing) ≡ unfragmented h f
+        → HeardShort s l h f
+    go true three k e =
+        let r = headerIn l in
+        let (z, flag, x, g) = short-header (r .fault) (r .count - 1) (r .countdown) f (eqb (r .fragmented) 1) _ h e in
+        let low = well-read (l .frame) (l .slot) (take 8 (l .blocks)) (schHIn l) z .low in
+        let no = eqb-false (r .fragmented) 1 flag in
+        record {
+          brings = record {
+            kind = eqb-true (l .kind) 2 k;
+            well = z;
+            unfragmented = omega (arith, low, no);
+            for-us = ap (λ (y : Header). y .for-us) (sym x) ∙ w;
+          };
+          header = x;
+          countdown = g;
+        }
+    go false true k e =
+        let b = readContinuation (l .blocks) in
+        absurd-bool (sym (not-a-block (b .fault) (eqb (b .last) 1) _) ∙ ap is-short e)
+    go false false k e = absurd-bool (ap is-short e)
+
+pub short-heard : (s : Settings) (l : Lent) → BringsShort s l
+    → heard s l ≡ unfragmented (headerFrom s (schHIn l) (headerIn l)) (headerIn l .countdown)
+unfolding heard
+short-heard s l b = rw (b .kind, b .well, b .unfragmented) refl

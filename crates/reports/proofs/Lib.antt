@@ -4,4 +4,5 @@ pub mod Variants
 pub mod RuleLaws
 pub mod Readings
 pub mod FlagLaws
+pub mod FaultLaws
 pub mod ReadLaws

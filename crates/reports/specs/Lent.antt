@@ -1,11 +1,13 @@
 -- A report as lent bytes: what is refused, whom a header is for, and what the report brings once its blocks are read.
-use mathlib.Core.Bool.{Bool, false, cond, _&&_, _||_}
+use mathlib.Core.Path.{_≡_}
+use mathlib.Core.Bool.{Bool, true, false, cond, _&&_, _||_}
 use mathlib.Core.List.{List, [], _∷_}
-use Prim.Native.Nat.{ℕ, zero, suc, _+_, _-_, _*_}
+use mathlib.Core.Logic.{_⊎_}
+use Prim.Native.Nat.{ℕ, zero, suc, _+_, _-_, _*_, _≤_}
 use lib.Dec.{eqb, leb}
 use lib.ListN.{take, drop}
-use Rattle.bits.specs.Bits.{bitsOf}
-use Rattle.store.specs.Store.{without}
+use Rattle.bits.specs.Bits.{bitsOf, over}
+use Rattle.store.specs.Store.{halves}
 use Rattle.store.specs.declared.Raw.{Raw}
 use Rattle.blocks.specs.Faults.{unless}
 use Rattle.blocks.specs.Sdu.{bitsIn}
@@ -57,19 +59,28 @@ for-unit s g =
     eqb (g .destination .kind) 0 &&
     (eqb (g .mni) (s .mni) && (eqb (g .destination .ssi) (s .individual) || eqb (g .destination .ssi) (s .group)))
 
--- SCH/H but for the countdown.
+-- The bits of an SCH/H but for the countdown, whose two are 0 here. They stand after the fragmentation flag and, where
+-- there is one, the slot count; and the same as two numbers.
+abbrev pub uncounted : List Bool → List Bool
+uncounted b = over (12 + 4 * fragmentedIn b) (false ∷ false ∷ []) b
+
 abbrev pub rawOf : List ℕ → Raw
-rawOf h = without (12 + 4 * fragmentedIn (bitsOf h)) h
+rawOf h = halves (uncounted (bitsOf h))
 
 -- A block that reads with a fault counts as nothing heard.
 abbrev pub unfaulted : ℕ → Heard → Heard
 unfaulted zero x = x
 unfaulted (suc n) x = nothing
 
+-- A well-formed header, from its SCH/H and what that reads as.
+abbrev pub headerFrom : Settings → List ℕ → read.Header → Header
+headerFrom s h r =
+    let m = bitsIn (messageOf (bodyOf (bitsOf h)) (bitsOf h)) in
+    record { raw = rawOf h; for-us = for-unit s (r .fields); fields = r .fields; bits = m }
+
 abbrev pub headerHeard : Settings → List ℕ → read.Header → Heard
 headerHeard s h r =
-    let m = bitsIn (messageOf (bodyOf (bitsOf h)) (bitsOf h)) in
-    let x : Header = record { raw = rawOf h; for-us = for-unit s (r .fields); fields = r .fields; bits = m } in
+    let x = headerFrom s h r in
     unfaulted (r .fault)
     (cond (eqb (r .fragmented) 1) (fragmented x (r .count - 1) (r .countdown)) (unfragmented x (r .countdown)))
 
@@ -77,15 +88,30 @@ abbrev pub blockHeard : List ℕ → Continuation → Heard
 blockHeard b r =
     let m = bitsIn (blockMessage (bitsOf b)) in unfaulted (r .fault) (cond (eqb (r .last) 1) (end m) (frag m))
 
--- The header of a report of kind 2, as it reads.
+-- The SCH/H of a report of kind 2, and its header, as it reads.
+abbrev pub schHIn : Lent → List ℕ
+schHIn l = drop 8 (l .blocks)
+
 abbrev pub headerIn : Lent → read.Header
-headerIn l = readReported (l .frame) (l .slot) (take 8 (l .blocks)) (drop 8 (l .blocks))
+headerIn l = readReported (l .frame) (l .slot) (take 8 (l .blocks)) (schHIn l)
 
 unfoldable pub heard : Settings → Lent → Heard
 heard s l =
-    cond (eqb (l .kind) 2) (headerHeard s (drop 8 (l .blocks)) (headerIn l))
+    cond (eqb (l .kind) 2) (headerHeard s (schHIn l) (headerIn l))
     (cond (eqb (l .kind) 3) (blockHeard (l .blocks) (readContinuation (l .blocks))) nothing)
+
+-- A number that reading the blocks of an accepted report may give, or 0. A report is refused with others: 1, 15 to 17.
+pub record OfReading (n : ℕ) : Type 0 where
+  pub not-1 : n ≡ 1 → ⊥
+  pub known : (n ≤ 12) ⊎ (n ≡ 18)
 
 -- The fault that is reported.
 abbrev pub faultIn : Lent → ℕ
 faultIn l = cond (eqb (l .kind) 2) (headerIn l .fault) (cond (eqb (l .kind) 3) (readContinuation (l .blocks) .fault) 0)
+
+-- The report brings a well-formed unfragmented header for a unit with these settings.
+pub record BringsShort (s : Settings) (l : Lent) : Type 0 where
+  pub kind : l .kind ≡ 2
+  pub well : headerIn l .fault ≡ 0
+  pub unfragmented : headerIn l .fragmented ≡ 0
+  pub for-us : for-unit s (headerIn l .fields) ≡ true
