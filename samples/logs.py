@@ -1,44 +1,59 @@
 #!/usr/bin/env python3
-"""The sample logs: for each story of stories.py its slot log (.log), what the printer prints for it (.txt), and the story line by line (.md).
+"""The sample logs: for each story of stories.py its slot log (.log), what the printer prints for it (.txt), and the
+story line by line (.md).
 
 logs.py            write the files
-logs.py --check    exit 1, and say where, if a stored file is not the one that this makes, or if a program prints something else
+logs.py --check    exit 1, and say where, if a stored file is not the one that this makes, or if a program prints
+                   something else
 
-What is printed was worked out by hand. The second program has to print the same, and with --check the proved printer too. june.calls has the
-reports of june.log as call records, for `probe`, which also shows the message, and the calls in which the story goes
-on; june.calls.txt is what `probe` prints for them.
+What is printed was worked out by hand. The second program has to print the same, and with --check the proved printer
+too. june.calls has the reports of june.log as call records, for `probe`, which also shows the message, and the calls in
+which the story goes on; june.calls.txt is what `probe` prints for them.
 """
 import inspect
 import itertools
 import os
 import sys
+import textwrap
 
 import stories
 from stories import second
 
 HERE = os.path.dirname(os.path.abspath(__file__))
 BYTES = {"sdu": -2, "build": -2, "report": -5}  # where the bytes of a line stand
+COLUMNS = 120  # no line of a story is longer
 
 
-def table(rows, line=1, heading="what was heard"):
-    """The rows of a story, from this line on; three or more in turn with the same words take one line."""
-    yield "| line | printed | %s |" % heading
-    yield "|---|---|---|"
+def cells(rows, line):
+    """The rows of a story, from this line on, as (numbers, lines printed, words); three or more in turn with the same
+    words are one, from the first to the last."""
     rows = [(printed, words) for _, printed, words in rows]
     while rows:
         (printed, words), alike = rows[0], 1
         while printed and alike < len(rows) and rows[alike][1] == words:
             alike += 1
         if printed is None:
-            yield "| - | | %s |" % words
+            yield ["-"], [""], words
             alike = 1
         elif alike < 3:
-            yield "| %d | `%s` | %s |" % (line, printed, words)
+            yield [str(line)], [printed], words
             alike = 1
         else:
-            yield "| %d to %d | `%s` to `%s` | %s |" % (line, line + alike - 1, printed, rows[alike - 1][0], words)
+            yield [str(line), "to %d" % (line + alike - 1)], [printed, rows[alike - 1][0]], words
         line += alike
         rows = rows[alike:]
+
+
+def table(rows, line=1, heading="what was heard"):
+    """The rows of a story side by side, with `>` before those to look at."""
+    found = [(["line"], ["printed"], heading)] + list(cells(rows, line))
+    wide = max(len(one) for _, printed, _ in found for one in printed)
+    start = "    %-1s %5s  %-" + str(wide) + "s  %s"
+    for numbers, printed, words in found:
+        mark = [">"] if "**" in words else [""]
+        said = textwrap.wrap(words.replace("**", ""), COLUMNS - len(start % ("", "", "", "")))
+        for row in itertools.zip_longest(mark, numbers, printed, said, fillvalue=""):
+            yield (start % row).rstrip()
 
 
 def told(tell):
@@ -50,8 +65,12 @@ def told(tell):
 
 def story(name, log):
     title, before, after = told(stories.LOGS[name])
-    shown = "`%s.log` prints `%s.txt`: `./print-log samples/%s.log`. A line is frame, slot, outcome, dropped, fault, bits (docs/READING-THE-LOG.md)." % (name, name, name)
-    return "\n".join(["# " + title, "", before, "", shown, ""] + list(table(log.rows)) + ["", after, ""])
+    rows = list(table(log.rows))
+    shown = "`%s.log` prints `%s.txt`: `./print-log samples/%s.log`. " % (name, name, name)
+    shown += "A line is frame, slot, outcome, dropped, fault, bits (docs/READING-THE-LOG.md)."
+    if any(row.startswith("    >") for row in rows):
+        shown += " A `>` stands before what to look at."
+    return "\n".join(["# " + title, "", before, "", *textwrap.wrap(shown, COLUMNS), ""] + rows + ["", after, ""])
 
 
 def goes_on(tell, line):
@@ -62,8 +81,9 @@ def goes_on(tell, line):
 
 def calls(log):
     """The reports of a log as call records, each with a buffer of 512 bytes."""
-    reports = [data for data, _, _ in log.rows]
-    return log.start + b"".join(second.record(4, data[4:6] + data[2:3] + (512).to_bytes(2, "little") + data[6:]) for data in reports)
+    room = (512).to_bytes(2, "little")
+    bodies = [data[4:6] + data[2:3] + room + data[6:] for data, _, _ in log.rows]
+    return log.start + b"".join(second.record(4, body) for body in bodies)
 
 
 def without_bytes(line):
@@ -92,7 +112,8 @@ def made():
     files = {}
     for name, tell in stories.LOGS.items():
         log = tell()
-        files[name + ".log"], files[name + ".txt"], files[name + ".md"] = log.data(), log.text().encode("ascii"), story(name, log).encode("utf-8")
+        files[name + ".log"], files[name + ".txt"] = log.data(), log.text().encode("ascii")
+        files[name + ".md"] = story(name, log).encode("utf-8")
     for name, tell in stories.CALLS.items():
         files[name + ".calls"], files[name + ".calls.txt"], line = calls_and_lines(name, stories.LOGS[name]())
         files[name + ".md"] += goes_on(tell, line).encode("utf-8")

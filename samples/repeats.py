@@ -1,11 +1,12 @@
 #!/usr/bin/env python3
-"""A message of three continuation blocks on the air: its header with 0 to 3 repeats, its blocks in their slots. See repeats.md.
+"""A message of three continuation blocks on the air: its header with 0 to 3 repeats, its blocks in their slots. See
+repeats.md.
 
 repeats.py            print the tables
 repeats.py --check    exit 1, and say where, if they are not those of repeats.txt
 
-All of it is asked of `probe`, record by record: a build for each header that goes out, the layout for each block, and the readers for what
-comes back. `rt check probe` makes that program.
+All of it is asked of `probe`, record by record: a build for each header that goes out, the layout for each block, and
+the readers for what comes back. `rt check probe` makes that program.
 """
 import os
 import sys
@@ -15,8 +16,10 @@ sys.path.insert(0, os.path.join(HERE, "..", "tests"))
 import second  # for the shape of records, and to run `probe`; the second program itself is not used here
 
 TEXT = b"Hire 4711: hammer kit 12 and drill kit 3, out 06:40, quarry 5, cage 2 ok"
-# To SSI 5001 from SSI 7, MNI 901, as DM-SDS DATA (23) with its 8 bits of elements: time remaining 1001, transaction type 0, priority 01, FCS flag 0.
-FIELDS = dict(system=13, usage=0, to_type=0, to=5001, from_type=0, source=7, mni=901, message=23, width=8, elements=0b1001_0_01_0)
+# To SSI 5001 from SSI 7, MNI 901, as DM-SDS DATA (23) with its 8 bits of elements: time remaining 1001, transaction
+# type 0, priority 01, FCS flag 0.
+FIELDS = dict(system=13, usage=0, to_type=0, to=5001, from_type=0, source=7, mni=901,
+              message=23, width=8, elements=0b1001_0_01_0)
 FIRST = 16  # the frame that the header goes out in first
 
 
@@ -32,7 +35,8 @@ def headers(f):
 
 def built(places):
     """A build for each place: its header and its continuation blocks."""
-    calls = [second.build_record(TEXT, slot=slot - 1, frame=frame, countdown=countdown, n=8 * len(TEXT), lent=1024, **FIELDS) for frame, slot, countdown in places]
+    sent = [dict(slot=slot - 1, frame=frame, countdown=countdown) for frame, slot, countdown in places]
+    calls = [second.build_record(TEXT, n=8 * len(TEXT), lent=1024, **place, **FIELDS) for place in sent]
     for word, fault, k, run, rest in probe(calls):
         assert (word, fault, rest) == ("build", "0", "1")
         data = bytes.fromhex(run)
@@ -70,15 +74,19 @@ def table(f):
     yield "F = %d: the header goes out %d times" % (f, len(places))
     yield row("frame", "slot", "what goes out", "first bytes")
     for (frame, slot, countdown), (header, _) in zip(places, sent):
-        (word, fault, _, _, code, in_frame, _, count, falls, *_, first, bits), = probe([second.record(6, [8, 16] + list(header))])
-        assert (word, fault, int(code) + 1, int(in_frame), int(falls), int(count)) == ("header", "0", slot, frame, countdown, len(blocks))
+        answer, = probe([second.record(6, [8, 16] + list(header))])
+        word, fault, _, _, code, in_frame, _, count, falls, *_, first, bits = answer
+        assert (word, fault, int(code) + 1, int(in_frame)) == ("header", "0", slot, frame)
+        assert (int(falls), int(count)) == (countdown, len(blocks))
         message = bit_run(header[8:], int(first), int(bits))
-        yield row(frame, slot, "header, countdown %d, %s bits" % (countdown, bits), "SCH/S %s  SCH/H %s" % (header[:3].hex(" "), header[8:14].hex(" ")))
+        begins = "SCH/S %s  SCH/H %s" % (header[:3].hex(" "), header[8:14].hex(" "))
+        yield row(frame, slot, "header, countdown %d, %s bits" % (countdown, bits), begins)
     for i, block in enumerate(blocks):
         frame, = {due(place, i) for place in places}  # the same from whichever header it is counted
         name, bits = told(block)
         message += bits
-        yield row(frame, 1, "%s %d of %d, %d bits" % (name, i + 1, len(blocks), len(bits)), "SCH/F %s" % block[:8].hex(" "))
+        what = "%s %d of %d, %d bits" % (name, i + 1, len(blocks), len(bits))
+        yield row(frame, 1, what, "SCH/F %s" % block[:8].hex(" "))
     text = bytes(int(message[at:at + 8], 2) for at in range(0, len(message), 8))
     yield "read back, %d bits: %s" % (len(message), text.decode("ascii"))
 

@@ -1,4 +1,5 @@
-"""What the units heard, story by story: the reports of each sample log, and beside each what it is answered, worked out by hand.
+"""What the units heard, story by story: the reports of each sample log, and beside each what it is answered, worked out
+by hand.
 
 An answer is outcome, dropped, fault and bits, as printed after frame and slot. One story goes on in calls of `probe`.
 """
@@ -10,6 +11,7 @@ import second
 
 DESK, SITES, NETWORK = 5001, 900, 901  # the unit at the hire desk, the group of all sites, the MNI
 OTHER_DESK, CAGE_2, CAGE_3, CAGE_4 = 5002, 7, 8, 9
+SETTINGS = second.record(0, b"".join(n.to_bytes(4, "little") for n in (DESK, SITES, NETWORK)))
 # DM-SDS DATA (23) and DM-SDS ACK (24), with the width and the number of their elements.
 DATA, ACK = dict(message=23, width=8, elements=0b1001_0_01_0), dict(message=24, width=1, elements=0)
 
@@ -27,12 +29,14 @@ class Message:
     """A text from a cage, to the hire desk if nothing else is said: built for each slot that its header goes out in."""
 
     def __init__(self, text, to=DESK, source=CAGE_2, sort=DATA):
-        self.text, self.fields = text, dict(system=13, usage=0, to_type=0, to=to, from_type=0, source=source, mni=NETWORK, **sort)
+        self.text = text
+        self.fields = dict(system=13, usage=0, to_type=0, to=to, from_type=0, source=source, mni=NETWORK, **sort)
 
     def built(self, place, countdown):
         frame, slot = place
         text = self.text.encode("ascii")
-        call = second.build_record(text, slot=slot - 1, frame=frame, countdown=countdown, n=8 * len(text), lent=1024, **self.fields)
+        sent = dict(slot=slot - 1, frame=frame, countdown=countdown, n=8 * len(text), lent=1024)
+        call = second.build_record(text, **sent, **self.fields)
         word, fault, k, run, _ = second.lines(second.run("probe", given=call))[0].split()
         assert (word, fault) == ("build", "0")
         data = bytes.fromhex(run)
@@ -40,11 +44,12 @@ class Message:
 
 
 class Log:
-    """Reports one after another, from a place on. A row is a record, what is printed for it (None if it is not read), and words."""
+    """Reports one after another, from a place on. A row is a record, what is printed for it (None if it is not read),
+    and words; ** ** stands around what to look at."""
 
     def __init__(self, frame, slot, settings=True):
         self.place, self.rows = (frame, slot), []
-        self.start = second.record(0, b"".join(n.to_bytes(4, "little") for n in (DESK, SITES, NETWORK))) if settings else b""
+        self.start = SETTINGS if settings else b""
 
     def at(self, frame, slot):
         self.place = (frame, slot)
@@ -59,7 +64,7 @@ class Log:
             self.say(1, b"", answer, words)
 
     def header(self, message, answer, words, countdown=0, spoil=None, place=None):
-        """`spoil` turns bits of one byte; `place` is the one that the header itself names, where it is not the report's."""
+        """`spoil` turns bits of one byte; `place` is the one that the header names, where it is not the report's."""
         data = message.built(place or self.place, countdown)[0]
         if spoil:
             at, bits = spoil
@@ -149,29 +154,34 @@ class Calls:
 def june():
     """June: an answer over frame 18
 
-    The unit at the hire desk had asked cage 2 for hire 4711, and cage 2 answered. The answer takes a header and three blocks. Its header goes out in frames 16 and 17, so its
-    first block would be due in frame 18; but blocks never go out in frame 18, and it comes in frame 1. The log is what a unit at the desk hears, and what a right one prints.
+    The unit at the hire desk had asked cage 2 for hire 4711, and cage 2 answered. The answer takes a header and three
+    blocks. Its header goes out in frames 16 and 17, so its first block would be due in frame 18; but blocks never go
+    out in frame 18, and it comes in frame 1. The log is what a unit at the desk hears, and what a right one prints.
 
     ---
 
     ## What the unit of June made of it
 
-    It counted frame 18 as due. Slot 1 of frame 18 brought no block, so it dropped the answer there. From line 6 on it printed
+    It counted frame 18 as due. Slot 1 of frame 18 brought no block, so it dropped the answer there. From line 6 on it
+    printed
 
         18 1 0 1 0 0
         18 3 0 0 0 0
         1 1 0 0 0 0
 
-    and never a 2. The desk had no answer, so it sent the hire again; cage 2 had booked it already, booked it again and answered again (line 30). That answer begins in frame 12 and
-    ends before frame 18, so the desk got it. One hire, two bills: 118, which nobody at the desk had seen, and 119.
+    and never a 2. The desk had no answer, so it sent the hire again; cage 2 had booked it already, booked it again and
+    answered again (line 30). That answer begins in frame 12 and ends before frame 18, so the desk got it. One hire, two
+    bills: 118, which nobody at the desk had seen, and 119.
 
-    A 1 under *dropped* in frame 18 is the sign to look for. No block is due there, so a right unit prints it only where another message's header was heard in that slot, or over a break.
+    A 1 under *dropped* in frame 18 is the sign to look for. No block is due there, so a right unit prints it only where
+    another message's header was heard in that slot, or over a break.
     """
     log = Log(15, 3)
     first = Message("Hire 4711 booked: hammer kit 12, drill kit 3, tunnel 5, cage 2, bill 118")
     again = Message("Hire 4711 booked: hammer kit 12, drill kit 3, tunnel 5, cage 2, bill 119")
     log.nothing()
-    log.header(first, OPENS, "cage 2's answer begins: its header says that three blocks follow, and that the header itself comes again in the next frame", 1)
+    log.header(first, OPENS, "cage 2's answer begins: its header says that three blocks follow, and that the header "
+               "itself comes again in the next frame", 1)
     log.header(first, OPENS, "the header again, in slot 3; a repeat opens the same assembly anew and drops nothing", 1)
     log.header(first, OPENS, "once more, a frame on", 0)
     log.header(first, OPENS, "the last repeat", 0)
@@ -249,8 +259,8 @@ def june_goes_on():
                "what cage 2 reads in it. No fault: the check sequence is right. 1 is a transfer, 93 its reference; its "
                "text begins at bit 40 and has 376 bits")
     calls.book(DESK, hire, "0 1 1 93",
-               "**booked:** sender 5001 with reference 93 is new. Cage 2 writes bill 118, and answers in frame 16 (line "
-               "2 above)")
+               "**booked:** sender 5001 with reference 93 is new. Cage 2 writes bill 118, and answers in frame 16 "
+               "(line 2 above)")
     slots = sent(6, "the unit of June lost the answer, so the desk sends the hire again (lines 13 to 29 above): the "
                  "same transfer, laid out for slot 1 of frame 6", "and for slot 3")
     heard(slots, "frame 6, slot 1: its header",
@@ -278,12 +288,13 @@ def june_goes_on():
 def second_cage():
     """A second cage starts between two of ours
 
-    Cage 2 sends the desk a message of three blocks, three times over. Each time cage 3 starts between two of its blocks: with a message for another desk, with one for this desk, and with
-    a short one that fits into its header.
+    Cage 2 sends the desk a message of three blocks, three times over. Each time cage 3 starts between two of its
+    blocks: with a message for another desk, with one for this desk, and with a short one that fits into its header.
 
     ---
 
-    A fragmented header says whose the next blocks are, whoever it is for. A unit that went on with cage 2's message would take cage 3's blocks for cage 2's.
+    A fragmented header says whose the next blocks are, whoever it is for. A unit that went on with cage 2's message
+    would take cage 3's blocks for cage 2's.
     """
     log = Log(5, 1)
     ours = Message("Hire 4802 back: drill kit 7 from quarry 2, one bit worn, cage 2, paid 40")
@@ -297,19 +308,22 @@ def second_cage():
         log.block(ours, 1, KEPT, "its first block, kept")
 
     begin("cage 2 begins a message of three blocks for the desk")
-    log.header(theirs, LOST, "**cage 3 begins a message of two blocks for another desk.** The air is cage 3's now: ours is dropped")
+    log.header(theirs, LOST, "**cage 3 begins a message of two blocks for another desk.** The air is cage 3's now: "
+               "ours is dropped")
     log.block(theirs, 1, NOTHING, "cage 3's first block: not for this unit")
     log.nothing()
     log.block(theirs, 2, NOTHING, "cage 3's last block: not for this unit either")
     log.nothing()
     begin("cage 2 tries again")
-    log.header(later, "3 1 0 0", "**cage 3 begins a message for this desk.** Ours is dropped, and cage 3's opens, in one report")
+    log.header(later, "3 1 0 0", "**cage 3 begins a message for this desk.** Ours is dropped, and cage 3's opens, in "
+               "one report")
     log.block(later, 1, KEPT, "cage 3's first block")
     log.nothing()
     log.block(later, 2, joined(later.text), "cage 3's message is whole and handed over")
     log.nothing()
     begin("cage 2 tries a third time")
-    log.header(short, "1 0 0 24", "**cage 3 says in one header that kit 12 is back.** It is handed over at once, and outside due slots such a header does not touch an open assembly")
+    log.header(short, "1 0 0 24", "**cage 3 says in one header that kit 12 is back.** It is handed over at once, and "
+               "outside due slots such a header does not touch an open assembly")
     log.block(ours, 2, KEPT, "cage 2's second block")
     log.nothing()
     log.block(ours, 3, joined(ours.text), "cage 2's message is whole and handed over")
@@ -319,11 +333,13 @@ def second_cage():
 def missed_block():
     """A block that was missed
 
-    One hire, sent four times. Three blocks follow its header, each due in slot 1 of the next frame. Three times the second block goes wrong.
+    One hire, sent four times. Three blocks follow its header, each due in slot 1 of the next frame. Three times the
+    second block goes wrong.
 
     ---
 
-    Each lost try shows one 1 under *dropped*, at the due slot where it went wrong; after that, the blocks that still come are nothing to the unit. Only a whole message is handed over.
+    Each lost try shows one 1 under *dropped*, at the due slot where it went wrong; after that, the blocks that still
+    come are nothing to the unit. Only a whole message is handed over.
 
     The line does not say whose message is lost. The answer that the unit itself has does, and it is the same at lines
     5, 13 and 21: source 7, message type 23, and 281 bits joined so far, 17 of the header and 264 of the first block.
@@ -343,12 +359,14 @@ def missed_block():
     log.block(hire, 3, NOTHING, "the last block comes, but nothing is open any more")
     log.nothing()
     begin("the cage sends it again")
-    log.block(hire, 3, LOST, "**the last block where the second is due:** a unit that only waits for a last block would hand over a hire with a hole in it")
+    log.block(hire, 3, LOST, "**the last block where the second is due:** a unit that only waits for a last block "
+              "would hand over a hire with a hole in it")
     log.nothing()
     log.nothing("nothing is due any more")
     log.nothing()
     begin("and again")
-    log.block(hire, 2, "0 1 12 0", "**the second block, damaged on the way:** fault 12; it counts as nothing heard, so the assembly is dropped", spoil=0x80)
+    log.block(hire, 2, "0 1 12 0", "**the second block, damaged on the way:** fault 12; it counts as nothing heard, so "
+              "the assembly is dropped", spoil=0x80)
     log.nothing()
     log.block(hire, 3, NOTHING, "too late")
     log.nothing()
@@ -363,8 +381,8 @@ def missed_block():
 def copies():
     """Copies of a header
 
-    A header goes out in slots 1 and 3 of a frame, and again in up to three frames more, its countdown falling by one with each. So a unit hears the same short message up to eight times and has to
-    hand it over once.
+    A header goes out in slots 1 and 3 of a frame, and again in up to three frames more, its countdown falling by one
+    with each. So a unit hears the same short message up to eight times and has to hand it over once.
 
     ---
 
@@ -376,15 +394,18 @@ def copies():
     back = Message("K12", sort=ACK)
     other = Message("D03", to=SITES, source=CAGE_3, sort=ACK)
     hire = Message("Hire 4820: hammer kit 1, tunnel 4")
-    log.header(back, "1 0 0 24", "cage 2: kit 12 is back. One header, handed over; its countdown says that it comes in two more frames", 2)
+    log.header(back, "1 0 0 24", "cage 2: kit 12 is back. One header, handed over; its countdown says that it comes in "
+               "two more frames", 2)
     log.header(back, "5 0 0 0", "the same in slot 3: a copy, not handed over", 2)
     log.header(back, "5 0 0 0", "a frame on, the countdown one less: a copy", 1)
     log.nothing("one repeat was not heard; the next is held against those that were")
     log.header(back, "5 0 0 0", "a copy", 0)
     log.header(back, "5 0 0 0", "a copy", 0)
-    log.header(back, "1 0 0 24", "**the same header with the countdown at 2 again:** it did not fall with the frames, so this is a new message", 2)
+    log.header(back, "1 0 0 24", "**the same header with the countdown at 2 again:** it did not fall with the frames, "
+               "so this is a new message", 2)
     log.header(back, "5 0 0 0", "its copy", 2)
-    log.header(other, "1 0 0 24", "**cage 3 in between,** to all sites: drill kit 3 is back. The group is one of this unit's addresses, so this is handed over", 0)
+    log.header(other, "1 0 0 24", "**cage 3 in between,** to all sites: drill kit 3 is back. The group is one of this "
+               "unit's addresses, so this is handed over", 0)
     log.header(back, "5 0 0 0", "**cage 2's header again.** Cage 3's came in between, and that changes nothing: a copy "
                "of line 7's, a frame on, the countdown one less", 1)
     log.nothing()
@@ -446,11 +467,13 @@ def two_cages():
 def goes_back():
     """A report that goes back, and one that comes twice
 
-    After slot 1 comes slot 3 of the same frame, then slot 1 of the next. A report that doesn't follow the last one is a break: the unit can't know what it missed, so an open assembly is dropped.
+    After slot 1 comes slot 3 of the same frame, then slot 1 of the next. A report that doesn't follow the last one is a
+    break: the unit can't know what it missed, so an open assembly is dropped.
 
     ---
 
-    A break itself prints nothing. It shows in the first two columns alone, and where something was open, in a 1 under *dropped*.
+    A break itself prints nothing. It shows in the first two columns alone, and where something was open, in a 1 under
+    *dropped*.
     """
     log = Log(10, 1)
     hire = Message("Hire 4830: drill kit 5, quarry 2, out 06:40, back by Friday")
@@ -459,7 +482,8 @@ def goes_back():
     log.nothing()
     log.block(hire, 1, KEPT, "its first block")
     log.at(11, 1)
-    log.block(hire, 1, LOST, "**the same report a second time.** Slot 3 of frame 11 should follow: a break, and the assembly is dropped")
+    log.block(hire, 1, LOST, "**the same report a second time.** Slot 3 of frame 11 should follow: a break, and the "
+              "assembly is dropped")
     log.nothing()
     log.block(hire, 2, NOTHING, "the last block finds nothing open")
     log.nothing()
@@ -473,10 +497,12 @@ def goes_back():
     log.nothing()
     log.block(hire, 1, KEPT, "its first block")
     log.at(1, 1)
-    log.block(hire, 2, LOST, "**slots were left out:** after slot 1 of frame 17 comes its slot 3. The last block is in its due slot, but over a break nothing is joined: dropped")
+    log.block(hire, 2, LOST, "**slots were left out:** after slot 1 of frame 17 comes its slot 3. The last block is in "
+              "its due slot, but over a break nothing is joined: dropped")
     log.header(back, "1 0 0 24", "a short message: kit 7 is back")
     log.at(1, 3)
-    log.header(back, "1 0 0 24", "**the same report a second time:** over a break nothing is a copy, so it is handed over again")
+    log.header(back, "1 0 0 24", "**the same report a second time:** over a break nothing is a copy, so it is handed "
+               "over again")
     return log
 
 
@@ -487,13 +513,15 @@ def copy_18_later():
 
     ---
 
-    Frames gone by are counted one by one: eighteen have gone by, and the countdown has not fallen by eighteen. A unit that compared frame numbers would see none gone by, take the second for a copy and lose it.
+    Frames gone by are counted one by one: eighteen have gone by, and the countdown has not fallen by eighteen. A unit
+    that compared frame numbers would see none gone by, take the second for a copy and lose it.
     """
     log = Log(5, 1)
     back = Message("K12", sort=ACK)
     log.header(back, "1 0 0 24", "kit 12 is back: handed over")
     log.nothing(count=35)
-    log.header(back, "1 0 0 24", "**the same bits in the same slot of the same frame number, eighteen frames later.** No copy: handed over again")
+    log.header(back, "1 0 0 24", "**the same bits in the same slot of the same frame number, eighteen frames later.** "
+               "No copy: handed over again")
     log.header(back, "5 0 0 0", "straight after it, in slot 3: a copy")
     return log
 
@@ -501,7 +529,8 @@ def copy_18_later():
 def damaged():
     """Damaged blocks and damaged records
 
-    A fault number is about what the radio heard, or about a report that can't be; the words `kind` and `cut` are about the file.
+    A fault number is about what the radio heard, or about a report that can't be; the words `kind` and `cut` are about
+    the file.
 
     ---
 
@@ -516,14 +545,19 @@ def damaged():
     log.header(back, "0 0 18 0", "fault 18: the header names frame 6, the report frame 7", place=(6, 3))
     log.header(hire, OPENS, "a message of one block begins")
     log.record(second.record(9, b"cage 2"), "kind", "a record of kind 9, which there is not: skipped")
-    log.record(log.start, "kind", "the settings again: they go first and once, so this is skipped and the unit stays as it is")
+    log.record(log.start, "kind", "the settings again: they go first and once, so this is skipped and the unit stays "
+               "as it is")
     log.record(second.record(1, [8, 3, 0]), "kind", "a report of kind 1 that is a byte too long: skipped")
-    log.record(second.record(1, [19, 1]), "19 1 0 0 15 0", "fault 15: there is no frame 19. The report has not happened")
-    log.record(second.record(1, [8, 2]), "8 2 0 0 16 0", "fault 16: reports are of slots 1 and 3. This one has not happened either")
+    log.record(second.record(1, [19, 1]), "19 1 0 0 15 0", "fault 15: there is no frame 19. The report has not "
+               "happened")
+    log.record(second.record(1, [8, 2]), "8 2 0 0 16 0", "fault 16: reports are of slots 1 and 3. This one has not "
+               "happened either")
     log.nothing("slot 3 of frame 8: it follows the header, since nothing between them was a report that counts")
-    log.block(hire, 1, joined(hire.text), "the block, in its due slot: handed over. All of those left the open assembly alone")
+    log.block(hire, 1, joined(hire.text), "the block, in its due slot: handed over. All of those left the open "
+              "assembly alone")
     log.block(hire, 1, "0 0 12 0", "fault 12: an SCH/F that is no continuation block", spoil=0x80)
-    log.record(second.record(2, [10, 1, 0xD0]), "cut", "a record of kind 2 with three bytes: shorter than its kind. The printer stops")
+    log.record(second.record(2, [10, 1, 0xD0]), "cut", "a record of kind 2 with three bytes: shorter than its kind. "
+               "The printer stops")
     log.record(second.record(1, [10, 3]), None, "a good report: it is not read")
     return log
 
@@ -538,8 +572,9 @@ def no_unit():
     `unit` is all that such a log prints. Have the log taken from the unit again, from its start.
     """
     log = Log(5, 1, settings=False)
-    log.record(second.record(1, [5, 1]), "unit", "the log starts with a report: nobody knows whose it is. The printer stops")
-    log.record(second.record(0, b"".join(n.to_bytes(4, "little") for n in (DESK, SITES, NETWORK))), None, "the settings, too late: not read")
+    log.record(second.record(1, [5, 1]), "unit", "the log starts with a report: nobody knows whose it is. The printer "
+               "stops")
+    log.record(SETTINGS, None, "the settings, too late: not read")
     log.record(second.record(1, [5, 3]), None, "not read")
     return log
 

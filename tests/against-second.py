@@ -1,11 +1,13 @@
 #!/usr/bin/env python3
-"""The proved program against the second one, on call records that nobody has seen: what they print has to be the same, byte for byte.
+"""The proved program against the second one, on call records that nobody has seen: what they print has to be the same,
+byte for byte.
 
-against-second.py                  from fresh seeds, some 90,000 calls of every kind, some 200,000 settings and reports, mutated runs of slots,
-                                   and some 60,000 transport messages, read, built and booked
+against-second.py                  from fresh seeds, some 90,000 calls of every kind, some 200,000 settings and reports,
+                                   mutated runs of slots, and some 60,000 transport messages, read, built and booked
 against-second.py --seeds A,B,..   the calls, the reports and the transport messages of these seeds again
 
-Where they differ it names the sort and the seed, the record's number in what `second make SORT SEED` writes, and both lines.
+Where they differ it names the sort and the seed, the record's number in what `second make SORT SEED` writes, and both
+lines.
 """
 import itertools
 import os
@@ -15,9 +17,11 @@ import second
 
 # What `second make` makes, and how many records of it are tried.
 MADE = {"calls": 90000, "reports": 200000, "transport": 60000}
-# So many inputs the records of each sort are joined into. Each ends in a record that prints `cut`, if a seed had one, and one after it that is not read.
+# So many inputs the records of each sort are joined into. Each ends in a record that prints `cut`, if a seed had one,
+# and one after it that is not read.
 INPUTS = 12
-# The receiver and the bookings are what a program starts with: so a seed's answers do not hang on what stands before it.
+# The receiver and the bookings are what a program starts with: so a seed's answers do not hang on what stands before
+# it.
 START = [second.record(0, bytes(12)), second.record(11, b"")]
 
 
@@ -27,7 +31,8 @@ def fresh_seeds():
 
 
 def made(sort, seed):
-    """The records of a seed, (sort, seed, number, record) each: those that can stand anywhere, and those from one that prints `cut` on."""
+    """The records of a seed, (sort, seed, number, record) each: those that can stand anywhere, and those from one that
+    prints `cut` on."""
     calls = second.records(second.run("make", sort, str(seed)))
     numbered = [(sort, seed, number, call) for number, call in enumerate(START + calls, 1 - len(START))]
     answers = second.lines(second.run("probe", given=joined(numbered)))
@@ -62,7 +67,8 @@ def compare(calls):
     for call, a, b in itertools.zip_longest(calls, second.lines(ours), second.lines(theirs)):
         if a != b or call is None:
             sort, seed, number, record = call or ("-", "-", 0, b"")
-            sys.exit("against-second: %s of seed %s, record %d (%s)\n  probe:  %s\n  second: %s" % (sort, seed, number, record[:80].hex(), a, b))
+            where = "%s of seed %s, record %d (%s)" % (sort, seed, number, record[:80].hex())
+            sys.exit("against-second: %s\n  probe:  %s\n  second: %s" % (where, a, b))
     sys.exit("against-second: the lines are the same and their ends are not")
 
 
@@ -72,7 +78,8 @@ def main():
         sys.exit(__doc__)
     second.build()
     seeds = [int(word) for word in words[1].split(",")] if words else None
-    agreed = [compare(calls) for sort, most in MADE.items() for calls in inputs(sort, seeds or fresh_seeds(), 0 if words else most)]
+    agreed = [compare(calls) for sort, most in MADE.items()
+              for calls in inputs(sort, seeds or fresh_seeds(), 0 if words else most)]
     print("against-second: %d calls, in %d inputs, and the two programs print the same" % (sum(agreed), len(agreed)))
 
 

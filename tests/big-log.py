@@ -1,11 +1,13 @@
 #!/usr/bin/env python3
-"""A very long log through the proved printer: each line has to be right, and the memory that it takes must not grow with the log.
+"""A very long log through the proved printer: each line has to be right, and the memory that it takes must not grow
+with the log.
 
 big-log.py [MEGABYTES]    200 if none is named
 
-Not part of the gate: under the kit's emulator it takes some ten minutes. The log is made while it is sent: a long log of the second program,
-its reports over and over, and a record that is cut off at the end. What is to come is known from the second program on three rounds. The
-memory is the most that the printer's process ever held (VmHWM), with the emulator where there is one: after the first 5 MB, and at the end.
+Not part of the gate: under the kit's emulator it takes some ten minutes. The log is made while it is sent: a long log
+of the second program, its reports over and over, and a record that is cut off at the end. What is to come is known from
+the second program on three rounds. The memory is the most that the printer's process ever held (VmHWM), with the
+emulator where there is one: after the first 5 MB, and at the end.
 """
 import os
 import subprocess
@@ -54,7 +56,7 @@ def memory(pid):
 
 
 def plan(size):
-    """The settings, a round of reports, how often, and what is printed: for the first round, for each later one, for the end."""
+    """The settings, a round of reports, how often, and what is printed: for the first round, and for each later one."""
     first, *records = second.records(second.run("make", "long", str(SEED)))
     once = b"".join(records)
     outputs = [second.run("print", given=first + once * rounds) for rounds in (1, 2, 3)]
@@ -75,7 +77,8 @@ def read(child, expected):
             held += more
         if held[:len(piece)] != piece:
             pairs = zip(held.split(b"\n"), piece.split(b"\n"))
-            at, (is_now, should_be) = next(((n, pair) for n, pair in enumerate(pairs, 1) if pair[0] != pair[1]), (0, ("the end", "more")))
+            differ = ((n, pair) for n, pair in enumerate(pairs, 1) if pair[0] != pair[1])
+            at, (is_now, should_be) = next(differ, (0, ("the end", "more")))
             child.kill()
             sys.exit("big-log: line %d is %r and should be %r" % (lines + at, is_now, should_be))
         held, lines = held[len(piece):], lines + piece.count(b"\n")
@@ -92,7 +95,8 @@ def main():
     second.build()
     start, once, rounds, first, later = plan(size)
     begun = time.monotonic()
-    child = subprocess.Popen([os.path.join(second.TOP, "tests", "run-program"), "printer"], stdin=subprocess.PIPE, stdout=subprocess.PIPE)
+    program = [os.path.join(second.TOP, "tests", "run-program"), "printer"]
+    child = subprocess.Popen(program, stdin=subprocess.PIPE, stdout=subprocess.PIPE)
     sender = Sender(child, start, once, rounds, second.record(1, [5, 1])[:-1])
     sender.start()
     lines = read(child, [first] + [later] * (rounds - 1) + [b"cut\n"])
@@ -101,7 +105,8 @@ def main():
     if status:
         sys.exit("big-log: the printer ended with status %d" % status)
     early, most = sender.early or sender.most, sender.most
-    print("big-log: %d MB, %d lines, all right, the last one 'cut'; %.1f MB of memory after the first %d MB and %.1f MB at the end; %d s"
+    print("big-log: %d MB, %d lines, all right, the last one 'cut'; "
+          "%.1f MB of memory after the first %d MB and %.1f MB at the end; %d s"
           % (rounds * len(once) >> 20, lines, early / 2 ** 20, EARLY >> 20, most / 2 ** 20, time.monotonic() - begun))
     if most > early + GROWTH:
         sys.exit("big-log: the memory grew by more than %d MB" % (GROWTH >> 20))

@@ -4,8 +4,9 @@
 bits_vectors.py            write both files
 bits_vectors.py --check    exit 1, and say what differs, where a stored file is not what this script makes
 
-The answers come from a model on strings of '0' and '1': it has no shift, no mask and no byte edge. Those of HAND were worked out on
-paper; the model is held to them too. What a record looks like is said at the top of crates/bits_vectors/src/main.rt.
+The answers come from a model on strings of '0' and '1': it has no shift, no mask and no byte edge. Those of HAND were
+worked out on paper; the model is held to them too. What a record looks like is said at the top of
+crates/bits_vectors/src/main.rt.
 """
 import hashlib
 import os
@@ -51,7 +52,8 @@ def answer(call, x=0, y=0, z=0, v=0, s=b"", t=b""):
         return "range" if new is None or x + y > len(b) else hexed(laid(b, x, new))
     if call == "put_all":
         n = len(t) // 9
-        parts = [spelled(t[i], int.from_bytes(t[n + 8 * i:n + 8 * i + 8], "little")) if t[i] <= 56 else None for i in range(n)]
+        values = [int.from_bytes(t[n + 8 * i:n + 8 * i + 8], "little") for i in range(n)]
+        parts = [spelled(width, value) if width <= 56 else None for width, value in zip(t, values)]
         if None in parts or x + len("".join(parts)) > len(b):
             return "range"
         return hexed(laid(b, x, "".join(parts)))
@@ -139,7 +141,7 @@ HAND = [
     ("a part of 57 bits", dict(call="put_all", x=0, s=h("00" * 8), t=parts([57], [0])), "range"),
     ("parts that end past the slice", dict(call="put_all", x=5, s=h("00"), t=parts([2, 1, 1], [1, 1, 1])), "range"),
     ("five 1s from bit 3 to bit 6", dict(call="copy", x=3, y=6, z=5, s=h("00 00"), t=h("1F")), "03e0"),
-    ("33 bits: the last one too", dict(call="copy", x=0, y=0, z=33, s=h("00 00 00 00 00"), t=h("00 00 00 00 FF")), "0000000080"),
+    ("33 bits: the last one too", dict(call="copy", x=0, y=0, z=33, s=bytes(5), t=h("00 00 00 00 FF")), "0000000080"),
     ("no bits change nothing", dict(call="copy", x=8, y=8, z=0, s=h("A5"), t=h("5A")), "a5"),
     ("a source that is too short", dict(call="copy", x=1, y=0, z=8, s=h("00 00"), t=h("FF")), "range"),
     ("a destination that is too short", dict(call="copy", x=0, y=1, z=8, s=h("00"), t=h("FF FF")), "range"),
@@ -194,7 +196,7 @@ def edges():
             yield dict(call="copy", x=x, y=y, z=n, s=ones, t=mixed)
             yield dict(call="copy", x=x, y=y, z=n, s=zeros, t=ones)
     for place in range(0, 24):
-        yield dict(call="last_one", x=8, y=24, s=bytes(int(("0" * place + "1").ljust(24, "0")[i:i + 8], 2) for i in (0, 8, 16)))
+        yield dict(call="last_one", x=8, y=24, s=int(("0" * place + "1").ljust(24, "0"), 2).to_bytes(3, "big"))
     for n in (1, 2, 7, 8, 31, 32, 33, 262, 263):
         yield dict(call="end", x=0, y=n, t=mixed * 5)
         yield dict(call="end", x=5, y=n, t=mixed * 5)
@@ -229,7 +231,8 @@ def lengths(chance):
                 for call in ("clear", "fill", "last_one"):
                     yield dict(call=call, x=x, y=x + w, s=s)
                 yield dict(call="copy", x=x, y=most - w - min(x, most - w), z=w, s=s, t=t)
-                yield dict(call="put_all", x=x, s=s, t=parts([w // 2, w - w // 2], [chance.below(2 ** (w // 2)), chance.below(2 ** (w - w // 2))]))
+                halves = [w // 2, w - w // 2]
+                yield dict(call="put_all", x=x, s=s, t=parts(halves, [chance.below(2 ** half) for half in halves]))
 
 
 def rooms():

@@ -1,6 +1,7 @@
 """Histories of slot reports, some for each rule of the receiver, with the line that each report has to be answered by.
 
-The blocks are built by the second program. The lines are not asked of it: a history says what each of its reports brings about.
+The blocks are built by the second program. The lines are not asked of it: a history says what each of its reports
+brings about.
 What a line tells of an assembly that was dropped is worked out here, from the header that the history said to open it
 and the blocks that it said to be kept since; many histories also say it themselves, and the two have to be the same.
 """
@@ -38,16 +39,19 @@ def due_frame(x, f, i):
 
 
 class Message:
-    """A message of n bits: a DM-SDS DATA (h = 103, so 21 bits unfragmented and 17 before blocks) to the unit, unless told otherwise."""
+    """A message of n bits: a DM-SDS DATA (h = 103, so 21 bits unfragmented and 17 before blocks) to the unit, unless
+    told otherwise."""
 
     def __init__(self, n, seed=0, **other):
-        self.fields = dict(system=12, usage=0, to_type=0, to=UNIT, from_type=0, source=9, mni=MNI, message=23, width=8, elements=0xA5)
+        self.fields = dict(system=12, usage=0, to_type=0, to=UNIT, from_type=0, source=9, mni=MNI,
+                           message=23, width=8, elements=0xA5)
         self.fields.update(other)
         self.n, self.bytes = n, bytes((73 * i + 41 + seed) % 256 for i in range((n + 7) // 8))
 
     def built(self, frame, slot, countdown):
         """SCH/S with SCH/H, and the blocks."""
-        call = second.build_record(self.bytes, slot=slot - 1, frame=frame, countdown=countdown, n=self.n, lent=1024, **self.fields)
+        sent = dict(slot=slot - 1, frame=frame, countdown=countdown, n=self.n, lent=1024)
+        call = second.build_record(self.bytes, **sent, **self.fields)
         _, fault, k, written, _ = second.lines(second.run("probe", given=call))[0].split()
         assert fault == "0", (self.fields, self.n, fault)
         data = bytes.fromhex(written)
@@ -104,7 +108,8 @@ class History:
         self.begun(outcome, opens, part)
         numbers = [outcome, dropped, fault] + (message.numbers() if message else [0] * 9)
         line = "report %s %s 1 %d %d %d" % (" ".join(map(str, numbers)), message.hex() if message else "-", *told)
-        self.calls.append((second.record(REPORT, bytes([frame, slot, kind]) + buffer.to_bytes(2, "little") + blocks), line))
+        body = bytes([frame, slot, kind]) + buffer.to_bytes(2, "little") + blocks
+        self.calls.append((second.record(REPORT, body), line))
         if fault not in (15, 16, 1, 17):
             self.place = after(frame, slot)
 
@@ -168,7 +173,8 @@ def whole_runs():
     """1 to 15 blocks, past frame 18 in many places, the last block full, with one bit, or in between."""
     for k in range(1, 16):
         h = History((5 * k + 12) % 18 + 1)
-        message = Message(17 + 264 * (k - 1) + (264, 1 if k > 1 else 5, 263)[k % 3], seed=k, to=UNIT if k % 2 else GROUP)
+        last = (264, 1 if k > 1 else 5, 263)[k % 3]
+        message = Message(17 + 264 * (k - 1) + last, seed=k, to=UNIT if k % 2 else GROUP)
         h.run(message, k % 4)
         h.nothing(3)
         yield h
@@ -176,7 +182,8 @@ def whole_runs():
         h = History(x)
         h.run(TWO, f)
         yield h
-    # the longest: no source, no elements, 49 bits and fifteen full blocks; of its eight headers the last was heard, or the first
+    # the longest: no source, no elements, 49 bits and fifteen full blocks; of its eight headers the last was heard, or
+    # the first
     longest = Message(49 + 15 * 264, from_type=2, source=0, message=11, width=0, elements=0)
     for x, slot, f in ((17, 3, 0), (5, 1, 3)):
         h = History(x, slot)
@@ -244,7 +251,8 @@ def kinds_of_block():
 
 def other_headers():
     """Headers between and in due slots: fragmented or not, for this unit or another."""
-    between = [(Message(300, **OTHER), 0, 1), (Message(300, seed=9), 3, 1), (Message(15, **OTHER), 0, 0), (SHORT, 1, 0), (Message(0), 1, 0)]
+    between = [(Message(300, **OTHER), 0, 1), (Message(300, seed=9), 3, 1), (Message(15, **OTHER), 0, 0),
+               (SHORT, 1, 0), (Message(0), 1, 0)]
     for message, outcome, dropped in between:
         h = History(6)
         h.run(TWO, 0, upto=1)
@@ -264,7 +272,8 @@ def other_headers():
         h.block(TWO, 1, 0)
         yield h
     # whom a header is for
-    for other in (OTHER, dict(mni=4), dict(to_type=1), dict(to_type=2, to=0), dict(to=UNIT + 2 ** 23), dict(mni=MNI + 2 ** 23), dict(to=0)):
+    for other in (OTHER, dict(mni=4), dict(to_type=1), dict(to_type=2, to=0),
+                  dict(to=UNIT + 2 ** 23), dict(mni=MNI + 2 ** 23), dict(to=0)):
         h = History(8)
         h.header(Message(15, **other), 2, 0)
         h.header(Message(300, **other), 2, 0)
@@ -315,7 +324,8 @@ def repeats():
 
 
 def copies():
-    """Unfragmented headers again: in every slot, after another one, with other bits, after a break, eighteen frames later."""
+    """Unfragmented headers again: in every slot, after another one, with other bits, after a break, eighteen frames
+    later."""
     h = History(17)
     h.header(SHORT, 3, 1)
     for countdown in (3, 2, 2, 1, 1, 0, 0):
@@ -336,7 +346,8 @@ def copies():
         h.header(SHORT, 1, 1)  # the countdown does not fit
         yield h
     # every bit of SCH/H counts but for the countdown's; those of SCH/S do not
-    for other, outcome in ((dict(source=8), 1), (dict(seed=1), 1), (dict(elements=0xA4), 1), (dict(to=GROUP), 1), (dict(system=15, usage=3), 5)):
+    for other, outcome in ((dict(source=8), 1), (dict(seed=1), 1), (dict(elements=0xA4), 1), (dict(to=GROUP), 1),
+                           (dict(system=15, usage=3), 5)):
         h = History(12)
         h.header(SHORT, 1, 1)
         h.header(Message(15, **other), 1, outcome)
@@ -487,8 +498,9 @@ def breaks():
 
 
 # A fault of a header, and its field: the first bit, counted over SCH/S and SCH/H, the width and the value.
-HEADER_FAULTS = [(2, 60, 1, 1), (2, 63, 1, 1), (2, 188, 1, 1), (3, 0, 4, 9), (4, 4, 2, 1), (5, 6, 2, 1), (6, 19, 2, 1), (7, 14, 5, 0), (7, 14, 5, 19),
-                 (18, 14, 5, 11), (18, 12, 2, 1), (8, 78, 2, 3), (8, 104, 2, 3), (9, 154, 5, 31)]
+HEADER_FAULTS = [(2, 60, 1, 1), (2, 63, 1, 1), (2, 188, 1, 1), (3, 0, 4, 9), (4, 4, 2, 1), (5, 6, 2, 1), (6, 19, 2, 1),
+                 (7, 14, 5, 0), (7, 14, 5, 19), (18, 14, 5, 11), (18, 12, 2, 1), (8, 78, 2, 3), (8, 104, 2, 3),
+                 (9, 154, 5, 31)]
 BLOCK_FAULTS = [(2, 268, 1, 1), (2, 271, 1, 1), (12, 0, 2, 0), (12, 0, 2, 2), (12, 0, 2, 3)]
 
 
@@ -511,7 +523,8 @@ def damaged():
         yield h
     for i in range(2):
         good = TWO.blocks()[i]
-        bad = [(fault, put(good, at, width, value)) for fault, at, width, value in BLOCK_FAULTS] + [(11, bytes([0x50 + 0x20 * i]) + bytes(33))]
+        bad = [(fault, put(good, at, width, value)) for fault, at, width, value in BLOCK_FAULTS]
+        bad += [(11, bytes([0x50 + 0x20 * i]) + bytes(33))]
         for fault, data in bad:
             x = 17 - i
             h = History(x)
@@ -526,12 +539,14 @@ def damaged():
 def refused():
     """15, 16, 1 and 17, in this order: such a report has not happened."""
     header, block = SHORT.built(6, 3, 0)[0], TWO.blocks()[1]
-    wrong = [(15, (0, 2), 9, b"", 0), (15, (19, 1), NOTHING, b"", 512), (15, (255, 255), BLOCK, block, 512), (16, (18, 2), 9, b"", 0), (16, (1, 0), HEADER, header, 512),
-             (16, (6, 4), BLOCK, block, 512), (1, (6, 3), 0, b"", 511), (1, (6, 3), 4, b"", 512), (1, (6, 3), 255, header, 512), (1, (6, 3), NOTHING, b"\0", 512),
-             (1, (6, 3), HEADER, header[:23], 512), (1, (6, 3), HEADER, header + b"\0", 512), (1, (6, 3), HEADER, b"", 0), (1, (6, 3), HEADER, block, 512),
-             (1, (6, 3), BLOCK, b"", 512), (1, (6, 3), BLOCK, block[:33], 512), (1, (6, 3), BLOCK, block + b"\0", 512), (1, (6, 3), BLOCK, header, 512),
-             (17, (6, 3), NOTHING, b"", 0), (17, (6, 3), NOTHING, b"", 511), (17, (6, 3), HEADER, header, 511), (17, (7, 1), BLOCK, block, 511),
-             (17, (9, 1), NOTHING, b"", 511)]
+    wrong = [(15, (0, 2), 9, b"", 0), (15, (19, 1), NOTHING, b"", 512), (15, (255, 255), BLOCK, block, 512),
+             (16, (18, 2), 9, b"", 0), (16, (1, 0), HEADER, header, 512), (16, (6, 4), BLOCK, block, 512),
+             (1, (6, 3), 0, b"", 511), (1, (6, 3), 4, b"", 512), (1, (6, 3), 255, header, 512),
+             (1, (6, 3), NOTHING, b"\0", 512), (1, (6, 3), HEADER, header[:23], 512),
+             (1, (6, 3), HEADER, header + b"\0", 512), (1, (6, 3), HEADER, b"", 0), (1, (6, 3), HEADER, block, 512),
+             (1, (6, 3), BLOCK, b"", 512), (1, (6, 3), BLOCK, block[:33], 512), (1, (6, 3), BLOCK, block + b"\0", 512),
+             (1, (6, 3), BLOCK, header, 512), (17, (6, 3), NOTHING, b"", 0), (17, (6, 3), NOTHING, b"", 511),
+             (17, (6, 3), HEADER, header, 511), (17, (7, 1), BLOCK, block, 511), (17, (9, 1), NOTHING, b"", 511)]
     h = History(5)
     h.run(TWO, 0, upto=1)
     for fault, at, kind, blocks, buffer in wrong:
@@ -563,7 +578,8 @@ def units():
         h.header(Message(20, to=one ^ 2, mni=mni), 0, 0)
         yield h
     large = 2 ** 24
-    for numbers in ((large, GROUP, MNI), (UNIT, large, MNI), (UNIT, GROUP, large), (2 ** 32 - 1,) * 3, (large + UNIT, GROUP, MNI)):
+    for numbers in ((large, GROUP, MNI), (UNIT, large, MNI), (UNIT, GROUP, large), (2 ** 32 - 1,) * 3,
+                    (large + UNIT, GROUP, MNI)):
         h = History(2, first=settings(*numbers), line="unit 13")
         h.header(SHORT, 0, 0)
         h.header(Message(15, to=0, mni=0), 0, 1)

@@ -1,17 +1,20 @@
 #!/usr/bin/env python3
-"""The proved printer against the second program, on slot logs that nobody has seen: what they print has to be the same, byte for byte.
+"""The proved printer against the second program, on slot logs that nobody has seen: what they print has to be the same,
+byte for byte.
 
-logs-against-second.py                  2,000 fresh logs and 10 long ones, every prefix of a good log, and some small ones
+logs-against-second.py                  2,000 fresh logs and 10 long ones, every prefix of a good log, some small ones
 logs-against-second.py --logs N         the same with N logs, and a long one for each 200
 logs-against-second.py --seeds A,B,..   the log and the long log of each of these seeds again
 
-A log (`second make log SEED`) has 50 to 400 reports of mutated runs, records that are skipped, and often one that stops the printer or an end in
-the middle; each is a run of the printer by itself, since a log ends at its first `unit` or `cut`. A long one (`second make long SEED`) has some
-20,000 reports and nothing that stops. Over the fresh logs every outcome, every fault that a log can give and each of the three words has to
-have come. As many runs go at a time as there are processors; under the kit's emulator a run takes some 60 ms, most of it to start.
+A log (`second make log SEED`) has 50 to 400 reports of mutated runs, records that are skipped, and often one that stops
+the printer or an end in the middle; each is a run of the printer by itself, since a log ends at its first `unit` or
+`cut`. A long one (`second make long SEED`) has some 20,000 reports and nothing that stops. Over the fresh logs every
+outcome, every fault that a log can give and each of the three words has to have come. As many runs go at a time as
+there are processors; under the kit's emulator a run takes some 60 ms, most of it to start.
 
-The good log is cut after each of its bytes. A cut within the first record prints `unit`; at a record's end, the lines up to there; within a
-record, the same and `cut`. What the small ones print was worked out by hand: each way to get `unit`, `kind` and `cut`, and each limit beside it.
+The good log is cut after each of its bytes. A cut within the first record prints `unit`; at a record's end, the lines
+up to there; within a record, the same and `cut`. What the small ones print was worked out by hand: each way to get
+`unit`, `kind` and `cut`, and each limit beside it.
 
 Where the two differ it names the seed, the line, the record that it answers and both lines.
 """
@@ -25,8 +28,10 @@ import second
 
 LOGS, TO_A_LONG_ONE = 2000, 200
 SAMPLES = os.path.join(second.TOP, "samples")
-# Each of these has to come. Faults 1 and 17 are of lengths, which the log's framing has tested; 13 and 14 are of builds and settings.
-WANTED = ([("outcome", n) for n in range(6)] + [("dropped", n) for n in (0, 1)] + [("word", word) for word in ("unit", "kind", "cut")]
+# Each of these has to come. Faults 1 and 17 are of lengths, which the log's framing has tested; 13 and 14 are of builds
+# and settings.
+WANTED = ([("outcome", n) for n in range(6)] + [("dropped", n) for n in (0, 1)]
+          + [("word", word) for word in ("unit", "kind", "cut")]
           + [("fault", n) for n in (0, 2, 3, 4, 5, 6, 7, 8, 9, 10, 11, 12, 15, 16, 18)])
 
 
@@ -35,15 +40,18 @@ class Differs(Exception):
 
 
 def alike(what, given, printed, should_be):
-    """Stops, with words, at the first line that differs. A line answers the record after the settings that has its number."""
+    """Stops, with words, at the first line that differs. A line answers the record after the settings that has its
+    number."""
     if printed == should_be:
         return
     records = second.records(given)[1:]
     both = itertools.zip_longest(second.lines(printed), second.lines(should_be))
     for number, (is_now, wanted) in enumerate(both):
         if is_now != wanted:
-            record = given[:80].hex() if "unit" in (is_now, wanted) else records[number][:80].hex() if number < len(records) else "-"
-            raise Differs("%s, line %d (record %s)\n  printer: %s\n  should be: %s" % (what, number + 1, record, is_now, wanted))
+            answered = records[number] if number < len(records) else b""
+            record = (given if "unit" in (is_now, wanted) else answered)[:80].hex() or "-"
+            where = "%s, line %d (record %s)" % (what, number + 1, record)
+            raise Differs("%s\n  printer: %s\n  should be: %s" % (where, is_now, wanted))
     raise Differs("%s: the lines are the same and their ends are not" % what)
 
 
@@ -76,7 +84,8 @@ def compare(job):
 
 
 def good_log():
-    """The first answer of samples/june.log and samples/damaged.log up to its last good record: each kind of report, and records that print `kind`."""
+    """The first answer of samples/june.log and samples/damaged.log up to its last good record: each kind of report, and
+    records that print `kind`."""
     with open(os.path.join(SAMPLES, "june.log"), "rb") as file:
         june = second.records(file.read())[:13]
     with open(os.path.join(SAMPLES, "damaged.log"), "rb") as file:
@@ -115,19 +124,38 @@ def small_logs():
         for place in range(3):
             body = settings(*[wrong if at == place else 7 for at in range(3)])
             yield "setting %d is %d" % (place + 1, wrong), second.record(0, body) + report, "unit\n"
-    first = {"nothing at all": b"", "a report": report + unit, "no kind": bytes(2), "half a kind": bytes([1, 0, 0]), "kind 1": second.record(1, least),
-             "kind 256": second.record(256, least), "eleven bytes": second.record(0, least[:11]), "thirteen bytes": second.record(0, least + b"\0"),
+    first = {"nothing at all": b"",
+             "a report": report + unit,
+             "no kind": bytes(2),
+             "half a kind": bytes([1, 0, 0]),
+             "kind 1": second.record(1, least),
+             "kind 256": second.record(256, least),
+             "eleven bytes": second.record(0, least[:11]),
+             "thirteen bytes": second.record(0, least + b"\0"),
              "a length beyond the end": bytes([255, 255, 0, 0]) + least}
     for name, data in first.items():
         yield "the first record: %s" % name, data + (report if data else b""), "unit\n"
-    skipped = {"settings again": unit, "settings too long": second.record(0, bytes(13)), "kind 4": second.record(4, b""), "kind 256": second.record(256, [5, 1]),
-               "kind 513": second.record(513, bytes(26)), "the longest": second.record(9, bytes(65533)), "kind 1, a byte more": second.record(1, [5, 1, 0]),
-               "kind 2, a byte more": second.record(2, bytes(27)), "kind 3, a byte more": second.record(3, bytes(37)), "the longest of kind 1": second.record(1, bytes(65533))}
+    skipped = {"settings again": unit,
+               "settings too long": second.record(0, bytes(13)),
+               "kind 4": second.record(4, b""),
+               "kind 256": second.record(256, [5, 1]),
+               "kind 513": second.record(513, bytes(26)),
+               "the longest": second.record(9, bytes(65533)),
+               "kind 1, a byte more": second.record(1, [5, 1, 0]),
+               "kind 2, a byte more": second.record(2, bytes(27)),
+               "kind 3, a byte more": second.record(3, bytes(37)),
+               "the longest of kind 1": second.record(1, bytes(65533))}
     for name, data in skipped.items():
         yield name, unit + data + report, "kind\n" + then
-    stops = {"length 0": bytes(2), "length 1": bytes([1, 0, 1]), "settings, a byte less": second.record(0, bytes(11)), "kind 0 alone": second.record(0, b""),
-             "kind 1, a byte less": second.record(1, [5]), "kind 2, a byte less": second.record(2, bytes(25)), "kind 3, a byte less": second.record(3, bytes(35)),
-             "kind 9 beyond the end": bytes([255, 255, 9, 0]), "kind 1 beyond the end, too long": bytes([255, 255, 1, 0])}
+    stops = {"length 0": bytes(2),
+             "length 1": bytes([1, 0, 1]),
+             "settings, a byte less": second.record(0, bytes(11)),
+             "kind 0 alone": second.record(0, b""),
+             "kind 1, a byte less": second.record(1, [5]),
+             "kind 2, a byte less": second.record(2, bytes(25)),
+             "kind 3, a byte less": second.record(3, bytes(35)),
+             "kind 9 beyond the end": bytes([255, 255, 9, 0]),
+             "kind 1 beyond the end, too long": bytes([255, 255, 1, 0])}
     for name, data in stops.items():
         yield name, unit + report + data + report, then + "cut\n"
     yield "one byte left", unit + report + report[:1], then + "cut\n"
@@ -174,7 +202,8 @@ def main():
     missing = ["%s %s" % name for name in WANTED if not found[name]]
     if fresh and len(tried) >= LOGS and missing:
         sys.exit("logs-against-second: never came: %s" % ", ".join(missing))
-    print("logs-against-second: %d logs with %d reports, and the two programs print the same; %d prefixes and small logs print what they should"
+    print("logs-against-second: %d logs with %d reports, and the two programs print the same; "
+          "%d prefixes and small logs print what they should"
           % (len(tried), found["line"], len(fixed)))
 
 

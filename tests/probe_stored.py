@@ -4,9 +4,9 @@
 probe_stored.py            write both files
 probe_stored.py --check    exit 1, and say what differs, where a stored file is not what this script makes
 
-The records are the second program's sheet of reads and layouts, all of it; of its sheet of builds those that show something which none
-before them showed; the histories of slot reports of histories.py, whose lines the second program has to agree with; its sheet of
-transport messages and bookings, all of it; and some that try the framing.
+The records are the second program's sheet of reads and layouts, all of it; of its sheet of builds those that show
+something which none before them showed; the histories of slot reports of histories.py, whose lines the second program
+has to agree with; its sheet of transport messages and bookings, all of it; and some that try the framing.
 """
 import itertools
 import os
@@ -27,7 +27,8 @@ def shows(given, line):
     left = 124 - (95 + b["width"] - 24 * absent)
     over = b["n"] - (left - 4)  # message bits beyond what a fragmented header takes
     case, types = (b["message"], b["width"]), (b["to_type"], b["from_type"])
-    facts = {("case", case, fault) if fault in (0, 9) else ("type", b["message"], fault), ("width", b["width"], fault), ("types", types, fault, k)}
+    facts = {("case", case, fault) if fault in (0, 9) else ("type", b["message"], fault)}
+    facts |= {("width", b["width"], fault), ("types", types, fault, k)}
     facts |= {(name, b[name], fault) for name in ("system", "usage", "slot", "frame", "countdown")}
     facts |= {(name, b[name]) for name in ("to", "source", "mni") if b[name] < 2 or b[name] >= 2 ** 24 - 1}
     if -5 <= b["n"] - left <= 6:
@@ -40,8 +41,9 @@ def shows(given, line):
     wrong = [name for name, most in NARROW.items() if b[name] > most]
     wrong += [name for name in ("to", "source", "mni") if b[name] >= 2 ** 24]
     wrong += [("absent", name) for name, of in (("to", "to_type"), ("source", "from_type")) if b[of] == 2 and b[name]]
-    if b["system"] not in range(10, 16) or b["frame"] not in range(1, 19) or b["n"] > 8 * len(message) or fault in (8, 9, 14):
-        wrong += [b["system"] // 10, b["frame"] // 19, b["n"] > 8 * len(message), types]
+    beyond = b["n"] > 8 * len(message)
+    if b["system"] not in range(10, 16) or b["frame"] not in range(1, 19) or beyond or fault in (8, 9, 14):
+        wrong += [b["system"] // 10, b["frame"] // 19, beyond, types]
     return facts | {("refused", fault, tuple(wrong))}
 
 
@@ -60,13 +62,16 @@ def some_histories():
     answers = second.lines(second.run("probe", given=b"".join(given for given, _ in calls)))
     for number, ((given, line), answer) in enumerate(itertools.zip_longest(calls, answers, fillvalue=(b"", "")), 1):
         if answer != line:
-            sys.exit("probe_stored: call %d of the histories (%s)\n  by hand: %s\n  second:  %s" % (number, given[:40].hex(), line, answer))
+            where = "call %d of the histories (%s)" % (number, given[:40].hex())
+            sys.exit("probe_stored: %s\n  by hand: %s\n  second:  %s" % (where, line, answer))
         yield given
 
 
 def framing():
-    """Unknown kinds, bytes beyond what a kind takes, the largest body, outputs that are too long; then a record that is cut, and one more."""
-    fields = dict(system=12, usage=1, slot=0, frame=7, countdown=2, to_type=0, to=1, from_type=0, source=2, mni=3, message=11, width=0, elements=0)
+    """Unknown kinds, bytes beyond what a kind takes, the largest body, outputs that are too long; then a record that is
+    cut, and one more."""
+    fields = dict(system=12, usage=1, slot=0, frame=7, countdown=2, to_type=0, to=1, from_type=0, source=2, mni=3,
+                  message=11, width=0, elements=0)
     for kind in (0x0100, 0x0104, 0x0105, 0x0109, 0x010B, 0x0400, 0x0800, 0x0B00, 0xFFFF, 1, 2, 3, 13):
         yield second.record(kind, [17, 0, 0])
     yield second.record(13, b"")

@@ -1,12 +1,14 @@
-"""The second program: built by cargo from second/, with no network, to target/second/; and the records that it makes and answers."""
+"""The second program: built by cargo from second/, with no network, to target/second/; and the records that it makes
+and answers."""
 import os
 import shutil
 import subprocess
 import sys
 
 TOP = os.path.join(os.path.dirname(os.path.abspath(__file__)), "..")
-WORDS = ["--offline", "--quiet", "--manifest-path", os.path.join(TOP, "second", "Cargo.toml"), "--target-dir", os.path.join(TOP, "target", "second")]
-PROGRAM = os.path.join(TOP, "target", "second", "release", "second")
+TARGET = os.path.join(TOP, "target", "second")
+WORDS = ["--offline", "--quiet", "--manifest-path", os.path.join(TOP, "second", "Cargo.toml"), "--target-dir", TARGET]
+PROGRAM = os.path.join(TARGET, "release", "second")
 
 
 def build():
@@ -23,8 +25,9 @@ def run(*words, given=b""):
 
 def run_proved(name, given):
     """What a proved program writes. It has ten minutes."""
+    words = [os.path.join(TOP, "tests", "run-program"), name]
     try:
-        ended = subprocess.run([os.path.join(TOP, "tests", "run-program"), name], input=given, stdout=subprocess.PIPE, timeout=600)
+        ended = subprocess.run(words, input=given, stdout=subprocess.PIPE, timeout=600)
     except subprocess.TimeoutExpired:
         sys.exit("the program '%s' did not end within ten minutes" % name)
     if ended.returncode:
@@ -45,7 +48,8 @@ def lines(output):
 
 
 def records(data):
-    """The records of a file of calls or of a slot log, one after the other; where one is cut off, all that is left is the last."""
+    """The records of a file of calls or of a slot log, one after the other; where one is cut off, all that is left is
+    the last."""
     at, found = 0, []
     while at < len(data):
         length = int.from_bytes(data[at:at + 2], "little")
@@ -60,8 +64,9 @@ def record(kind, body):
 
 
 # The fixed part of a build's body, number by number.
-BUILD = [("system", 1), ("usage", 1), ("slot", 1), ("frame", 1), ("countdown", 1), ("to_type", 1), ("to", 4), ("from_type", 1), ("source", 4),
-         ("mni", 4), ("message", 1), ("width", 1), ("elements", 8), ("n", 4), ("lent", 2)]
+BUILD = [("system", 1), ("usage", 1), ("slot", 1), ("frame", 1), ("countdown", 1), ("to_type", 1), ("to", 4),
+         ("from_type", 1), ("source", 4), ("mni", 4), ("message", 1), ("width", 1), ("elements", 8), ("n", 4),
+         ("lent", 2)]
 
 
 def build_record(lent_message, **numbers):

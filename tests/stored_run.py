@@ -1,5 +1,6 @@
 #!/usr/bin/env python3
-"""The run of slot reports that crates/demands/proofs/RunHolds.antt proves by computation: every rule of the receiver, report by report.
+"""The run of slot reports that crates/demands/proofs/RunHolds.antt proves by computation: every rule of the receiver,
+report by report.
 
 stored_run.py            write the table, RunTable.antt, anew
 stored_run.py --check    exit 1 if the table is not the one that this makes
@@ -13,7 +14,8 @@ import second
 
 FILE = os.path.join(second.TOP, "crates", "demands", "specs", "RunTable.antt")
 UNIT, GROUP, MNI = 5001, 900, 901
-FIELDS = dict(system=13, usage=0, to_type=0, to=UNIT, from_type=0, source=7, mni=MNI, message=23, width=8, elements=0b1001_0_01_0)
+FIELDS = dict(system=13, usage=0, to_type=0, to=UNIT, from_type=0, source=7, mni=MNI,
+              message=23, width=8, elements=0b1001_0_01_0)
 ACK = dict(message=24, width=1, elements=1, from_type=2, source=0)
 UDATA = dict(message=22)
 HEAD = """-- Slot reports with what they are to answer, made by tests/stored_run.py.
@@ -37,7 +39,8 @@ def build(n, place, countdown=0, **other):
     """The header and the continuation blocks of a message of n bits."""
     frame, slot = place
     text = bytes((37 * i + 11) % 256 for i in range((n + 7) // 8))
-    given = second.build_record(text, **{**dict(slot=slot - 1, frame=frame, countdown=countdown, n=n, lent=1024), **FIELDS, **other})
+    sent = dict(slot=slot - 1, frame=frame, countdown=countdown, n=n, lent=1024)
+    given = second.build_record(text, **{**sent, **FIELDS, **other})
     word, fault, k, run, _ = second.lines(second.run("probe", given=given))[0].split()
     assert (word, fault) == ("build", "0"), (word, fault)
     data = bytes.fromhex(run)
@@ -169,19 +172,26 @@ def reports():
 
 def answers(given):
     numbers = [second.record(0, b"".join(x.to_bytes(4, "little") for x in (UNIT, GROUP, MNI)))]
-    numbers += [second.record(4, bytes([frame, slot, kind]) + (512).to_bytes(2, "little") + data) for frame, slot, kind, data, _ in given]
+    room = (512).to_bytes(2, "little")
+    numbers += [second.record(4, bytes([*place, kind]) + room + data) for *place, kind, data, _ in given]
     for line in second.lines(second.run("probe", given=b"".join(numbers)))[1:]:
         word, outcome, dropped, fault, bits, *_, source, message, joined = line.split()
         yield tuple(map(int, (outcome, dropped, fault, bits, source, message, joined)))
 
 
+def row(report, told):
+    """The lines of a report: its words, then its row, in two lines where it is above 120 columns."""
+    frame, slot, kind, data, words = report
+    begins = "    row %d %d %d %s" % (frame, slot, kind, "0x" + data.hex() if data else "0")
+    ends = "(%s ∷ []) ∷" % " ∷ ".join(map(str, told))
+    fits = len(begins) + 1 + len(ends) <= 120
+    return ["    -- " + words, begins + " " + ends] if fits else ["    -- " + words, begins, "    " + ends]
+
+
 def main():
     second.build()
     given = reports()
-    lines = []
-    for (frame, slot, kind, data, words), told in zip(given, answers(given)):
-        bytes_ = "0x" + data.hex() if data else "0"
-        lines.append("    row %d %d %d %s (%s) ∷  -- %s" % (frame, slot, kind, bytes_, " ∷ ".join(map(str, told)) + " ∷ []", words))
+    lines = [line for report, told in zip(given, answers(given)) for line in row(report, told)]
     text = HEAD + "\n".join(lines) + "\n    []\n"
     if not sys.argv[1:]:
         with open(FILE, "w", encoding="utf-8") as file:
@@ -191,7 +201,8 @@ def main():
         with open(FILE, encoding="utf-8") as file:
             if file.read() != text:
                 sys.exit("stored_run: RunTable.antt is not the table that this makes")
-        print("stored_run: the %d reports of RunTable.antt, and what they are to answer, are those of today" % len(given))
+        said = "stored_run: the %d reports of RunTable.antt, and what they are to answer, are those of today"
+        print(said % len(given))
     else:
         sys.exit(__doc__)
 
