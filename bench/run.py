@@ -112,8 +112,7 @@ HOW = {
         + COUNTED + " A string instruction that repeats counts once for each repeat; `memcpy` and `memset` of the one C"
         " library that all three use count too.",
     "same":
-        "Where there is no goal for (b), it touches no bit, and runs what (a) runs. The driver holds every"
-        " answer and every message against the expected one, and a sum over all answers and all written bytes is the"
+        "Where there is no goal for (b), it touches no bit. The driver holds every answer and every message against the expected one, and a sum over all answers and all written bytes is the"
         " same for all three. Programs over the three, and over both peers at `-Os`, were held against the second"
         " program (`second/`), byte for byte, but for the steps over bits, which it does not have: %s.",
     "logs":

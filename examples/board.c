@@ -1,10 +1,11 @@
 /*
  * A unit's slot handler over Pierstrand, in plain C99. examples/run builds and runs it.
  *
- * slot_handler, hand_over and tell_lost are the part to copy. The radio calls slot_handler once for every
- * slot 1 and every slot 3, in their order, heard or not. A message that comes out goes to hand_over, which
- * books it if it is a transfer of SDS-TL; one that is lost on the way goes to tell_lost. All else stands in
- * for the radio: it lays messages out over slots and reports these slots one by one.
+ * slot_handler, hand_over, print_hire and tell_lost are the part to copy. The radio calls slot_handler once
+ * for every slot 1 and every slot 3, in their order, heard or not. A message that comes out goes to hand_over,
+ * which books it if it is a transfer of SDS-TL; what is booked goes to print_hire, which takes two numbers out
+ * of its user data; one that is lost on the way goes to tell_lost. All else stands in for the radio: it lays
+ * messages out over slots and reports these slots one by one.
  *
  * A line that starts with six numbers is one of a slot log, with some words after it: frame, slot,
  * outcome, dropped, fault, bits (docs/READING-THE-LOG.md).

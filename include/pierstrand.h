@@ -87,7 +87,7 @@ enum pierstrand_fault {
 	PIERSTRAND_FAULT_FRAME = 7,         /* a block's frame number not 1 to 18 */
 	PIERSTRAND_FAULT_ADDRESS_TYPE = 8,  /* a reserved address type */
 	PIERSTRAND_FAULT_MESSAGE_TYPE = 9,  /* message type without entry, or a header above 124 bits */
-	PIERSTRAND_FAULT_COUNT = 10,        /* fragmented with slot count 0 */
+	PIERSTRAND_FAULT_SLOT_COUNT = 10,   /* fragmented with slot count 0 */
 	PIERSTRAND_FAULT_FILL = 11,         /* fill told of, no 1 in the DM-SDU's room */
 	PIERSTRAND_FAULT_PDU_TYPE = 12,     /* an SCH/F that is neither DMAC-FRAG nor DMAC-END */
 	PIERSTRAND_FAULT_RANGE = 13,        /* a number too large for its field, an absent one not 0, a width that is
@@ -447,7 +447,7 @@ struct pierstrand_booking pierstrand_book(struct pierstrand_bookings *bookings, 
  *   at       a bit's number from the start of `lent` on; any number, and past the end no bit is left
  *
  * pierstrand_take_bits takes the `n` bits from there on as a number. Refused in this order: 13 (n above 56), 1
- * (fewer are left). pierstrand_skip_bits goes past `n` bits, as many as there are. Refused: 1 (fewer are left).
+ * (fewer are left). pierstrand_skip_bits goes past `n` bits, however many. Refused: 1 (fewer are left).
  * A refusal has value 0, and its position is the one that was given. pierstrand_count_left says how many bits
  * are left from there on; it is never refused.
  */

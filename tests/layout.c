@@ -953,7 +953,7 @@ static void faults(void)
 		{0, 0x04, PIERSTRAND_FAULT_SYNC_TYPE}, {0, 0x01, PIERSTRAND_FAULT_COMMUNICATION},
 		{2, 0x08, PIERSTRAND_FAULT_ENCRYPTION}, {1, 0x02, PIERSTRAND_FAULT_FRAME},
 		{10, 0x30, PIERSTRAND_FAULT_ADDRESS_TYPE}, {19, 0x01, PIERSTRAND_FAULT_MESSAGE_TYPE},
-		{9, 0x09, PIERSTRAND_FAULT_COUNT}, {9, 0x20, PIERSTRAND_FAULT_FILL},
+		{9, 0x09, PIERSTRAND_FAULT_SLOT_COUNT}, {9, 0x20, PIERSTRAND_FAULT_FILL},
 	};
 	struct pierstrand_fields least = {.destination = {.kind = 2}, .source = {.kind = 2}, .message_type = 21};
 	size_t most = 120 - 47 + 15 * 264;
