@@ -112,9 +112,10 @@ HOW = {
         + COUNTED + " A string instruction that repeats counts once for each repeat; `memcpy` and `memset` of the one C"
         " library that all three use count too.",
     "same":
-        "Where there is no goal for (b), it touches no bit. The driver holds every answer and every message against the expected one, and a sum over all answers and all written bytes is the"
-        " same for all three. Programs over the three, and over both peers at `-Os`, were held against the second"
-        " program (`second/`), byte for byte, but for the steps over bits, which it does not have: %s.",
+        "Where there is no goal for (b), it touches no bit. The driver holds every answer and every message against the"
+        " expected one, and a sum over all answers and all written bytes is the same for all three. Programs over the"
+        " three, and over both peers at `-Os`, were held against the second program (`second/`), byte for byte, but for"
+        " the steps over bits, which it does not have: %s.",
     "logs":
         "What the reports bring. A log is whole multiframes, slot 1 and slot 3 of each frame in turn, heard again and"
         " again by one receiver; of the refused reports none is accepted. The run is a header in both slots of two"
