@@ -1,5 +1,6 @@
 #!/usr/bin/env python3
-"""Holds the programs over the library and over both peers against the second program, byte for byte, on its made inputs.
+"""Holds the programs over the library and over both peers against the second program, byte for byte, on its made
+inputs. The steps over bits, which the second program does not have, are not among them.
 
 usage: check.py [--second PROGRAM] [--peers FOLDER] [--run COMMAND] [--seeds FROM TO] [PEER ..]
 

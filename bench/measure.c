@@ -97,6 +97,16 @@ static struct {
 	uint8_t mark;
 } index_;
 
+/* Steps over the first message, one after another: from which bit on, of how many bits each, how many,
+   and the fault of each. */
+static struct {
+	size_t length;
+	size_t first;
+	size_t n;
+	unsigned count;
+	uint8_t fault;
+} steps;
+
 static uint8_t messages[8][ROOM]; /* the last is all 0 */
 static uint64_t sum;
 static size_t deepest;
@@ -130,7 +140,7 @@ static Fields fields_to(uint32_t ssi)
 	f.DESTINATION.ssi = ssi;
 	f.source.ssi = OTHER;
 	f.mni = MNI;
-	f.message = 23;
+	f.message_type = 23;
 	f.width = 8;
 	f.elements = 0xc5;
 	return f;
@@ -497,7 +507,7 @@ static void make_sdu(uint8_t carrier, uint8_t fcs, unsigned user)
 	Sdu built;
 
 	sdu.fields = fields_to(INDIVIDUAL);
-	sdu.fields.message = carrier;
+	sdu.fields.message_type = carrier;
 	sdu.fields.elements = fcs;
 	sdu.fcs = fcs;
 	sdu.user = user;
@@ -634,6 +644,39 @@ static void make_none(void)
 {
 }
 
+/* As many steps as go into what is lent. */
+static void make_steps(size_t length, size_t first, size_t n)
+{
+	steps.length = length;
+	steps.first = first;
+	steps.n = n;
+	steps.count = (8 * length - first) / n;
+	steps.fault = 0;
+}
+
+static void make_steps_8(void)
+{
+	make_steps(32, 5, 8);
+}
+
+static void make_steps_56(void)
+{
+	make_steps(ROOM, 5, 56);
+}
+
+static void make_steps_few(void)
+{
+	make_steps(3, 0, 5);
+}
+
+/* The last bits of what is lent, and one more. */
+static void make_steps_refused(void)
+{
+	make_steps(32, 8 * 32 - 13, 14);
+	steps.count = 1;
+	steps.fault = 1;
+}
+
 /* ---- the loops that are counted */
 
 static void count_hear(unsigned passes)
@@ -723,7 +766,7 @@ static void count_sdu(unsigned passes)
 	while (passes--) {
 		Sdu built;
 
-		BUILD_TRANSPORT(built, sdu.fields.message, sdu.fcs, &sdu.message, sdu.user,
+		BUILD_TRANSPORT(built, sdu.fields.message_type, sdu.fcs, &sdu.message, sdu.user,
 				messages[0], ROOM, out, LONGEST_SDU);
 		used += built.bits;
 	}
@@ -749,6 +792,43 @@ static void count_fresh_bookings(unsigned passes)
 		FRESH_BOOKINGS(bookings);
 		used += bookings.count;
 	}
+}
+
+static void count_take(unsigned passes)
+{
+	while (passes--) {
+		size_t at = steps.first;
+
+		for (unsigned i = 0; i < steps.count; i++) {
+			Step step;
+
+			TAKE(step, messages[0], steps.length, at, steps.n);
+			used += STEP_OF(step).value;
+			at = STEP_OF(step).at;
+		}
+	}
+}
+
+static void count_skip(unsigned passes)
+{
+	while (passes--) {
+		size_t at = steps.first;
+
+		for (unsigned i = 0; i < steps.count; i++) {
+			Step step;
+
+			SKIP(step, messages[0], steps.length, at, steps.n);
+			at = STEP_OF(step).at;
+			used += at;
+		}
+	}
+}
+
+static void count_left(unsigned passes)
+{
+	while (passes--)
+		for (unsigned i = 0; i < steps.count; i++)
+			used += LEFT(messages[0], steps.length, steps.first + i * steps.n);
 }
 
 /* ---- the same calls, with every answer looked at and every call on a painted stack */
@@ -803,7 +883,7 @@ static void add_fields(const Fields *f)
 	add(f->source.ADDRESS_TYPE);
 	add(f->source.ssi);
 	add(f->mni);
-	add(f->message);
+	add(f->message_type);
 	add(f->width);
 	add(f->elements);
 }
@@ -974,7 +1054,7 @@ static unsigned check_sdu(void)
 	Sdu built;
 
 	memset(out, PAINT, sizeof out);
-	ON_PAINT(BUILD_TRANSPORT(built, sdu.fields.message, sdu.fcs, &sdu.message, sdu.user,
+	ON_PAINT(BUILD_TRANSPORT(built, sdu.fields.message_type, sdu.fcs, &sdu.message, sdu.user,
 				 messages[0], ROOM, out, LONGEST_SDU));
 	if (built.fault || built.bits != sdu.n || memcmp(out, sdu.bytes, (sdu.n + 7) / 8))
 		fail("a DM-SDU was built otherwise than expected");
@@ -1010,6 +1090,67 @@ static unsigned check_fresh_bookings(void)
 	if (bookings.count)
 		fail("a fresh index is not empty");
 	return 1;
+}
+
+/* The number of some bits, bit by bit. */
+static uint64_t bits_of(const uint8_t *bytes, size_t at, size_t n)
+{
+	uint64_t v = 0;
+
+	for (size_t i = at; i < at + n; i++)
+		v = v << 1 | (bytes[i / 8] >> (7 - i % 8) & 1);
+	return v;
+}
+
+static void add_step(const Step *step, size_t at, uint64_t value)
+{
+	if (step->fault != steps.fault || STEP_OF(*step).value != (steps.fault ? 0 : value) ||
+	    STEP_OF(*step).at != (steps.fault ? at : at + steps.n))
+		fail("a step over bits came to something else than expected");
+	add(step->fault);
+	add(STEP_OF(*step).value);
+	add(STEP_OF(*step).at);
+}
+
+static unsigned check_take(void)
+{
+	size_t at = steps.first;
+
+	for (unsigned i = 0; i < steps.count; i++) {
+		Step step;
+
+		ON_PAINT(TAKE(step, messages[0], steps.length, at, steps.n));
+		add_step(&step, at, steps.fault ? 0 : bits_of(messages[0], at, steps.n));
+		at = STEP_OF(step).at;
+	}
+	return steps.count;
+}
+
+static unsigned check_skip(void)
+{
+	size_t at = steps.first;
+
+	for (unsigned i = 0; i < steps.count; i++) {
+		Step step;
+
+		ON_PAINT(SKIP(step, messages[0], steps.length, at, steps.n));
+		add_step(&step, at, 0);
+		at = STEP_OF(step).at;
+	}
+	return steps.count;
+}
+
+static unsigned check_left(void)
+{
+	for (unsigned i = 0; i < steps.count; i++) {
+		size_t at = steps.first + i * steps.n, left;
+
+		ON_PAINT(left = LEFT(messages[0], steps.length, at));
+		if (left != 8 * steps.length - at)
+			fail("other bits are left than expected");
+		add(left);
+	}
+	return steps.count;
 }
 
 static const struct measured {
@@ -1054,6 +1195,12 @@ static const struct measured {
 	{"book-full", make_full_index, count_book, check_book},
 	{"book-report", make_book_report, count_book, check_book},
 	{"fresh-bookings", make_none, count_fresh_bookings, check_fresh_bookings},
+	{"take-8", make_steps_8, count_take, check_take},
+	{"take-56", make_steps_56, count_take, check_take},
+	{"take-few", make_steps_few, count_take, check_take},
+	{"take-refused", make_steps_refused, count_take, check_take},
+	{"skip", make_steps_8, count_skip, check_skip},
+	{"left", make_steps_8, count_left, check_left},
 };
 
 #define CASES (sizeof cases / sizeof cases[0])

@@ -128,7 +128,7 @@ static void print_fields(const Fields *f)
 {
 	printf(" %d %" PRIu32 " %d %" PRIu32 " %" PRIu32 " %d %d %" PRIu64,
 	       f->DESTINATION.ADDRESS_TYPE, f->DESTINATION.ssi, f->source.ADDRESS_TYPE,
-	       f->source.ssi, f->mni, f->message, f->width, f->elements);
+	       f->source.ssi, f->mni, f->message_type, f->width, f->elements);
 }
 
 static void probe_report(Fresh *unit, struct input body)
@@ -177,7 +177,7 @@ static void probe_build(struct input body)
 	f.source.ADDRESS_TYPE = take_number(&body, 1);
 	f.source.ssi = take_number(&body, 4);
 	f.mni = take_number(&body, 4);
-	f.message = take_number(&body, 1);
+	f.message_type = take_number(&body, 1);
 	f.width = take_number(&body, 1);
 	f.elements = take_number(&body, 8);
 	n = take_number(&body, 4);
@@ -234,7 +234,7 @@ static void print_message(const Message *m)
 /* Message type, elements and n of a DM-SDU. Its FCS flag is the last of the elements. */
 static uint32_t take_lent(struct input *body, Fields *f)
 {
-	f->message = take_number(body, 1);
+	f->message_type = take_number(body, 1);
 	f->elements = take_number(body, 8);
 	return take_number(body, 4);
 }

@@ -1,8 +1,10 @@
 #!/usr/bin/env python3
 """Measures the proved library beside the two peers, and writes bench/RESULTS.md. bench/README.md says what is needed.
 
-run.py                 everything: the library is proved and built (`rt staticlib board`), the programs are compared and measured
-run.py --quick         only what changes with the library: prints instructions, size and stack, and writes nothing into the repository
+run.py                 everything: the library is proved and built (`rt staticlib board`), the programs are compared and
+                       measured
+run.py --quick         only what changes with the library: prints instructions, size and stack, and writes nothing into
+                       the repository
 run.py --check         only compares the library's and the peers' programs with the second program, on more made inputs
     --library FILE     another libboard.a; it is not built then
     --include FOLDER   where its pierstrand.h is
@@ -17,13 +19,15 @@ import re
 import subprocess
 import sys
 import tempfile
+import textwrap
 
 import tools
 
 sys.path.insert(0, os.path.join(tools.TOP, "tests"))
 import image  # noqa: E402, of tests/
 
-# The name of a case in measure.c; what a call of it is; the passes of the short and of the long run; whether the peer over libosmocore touches a bit.
+# The name of a case in measure.c; what a call of it is; the passes of the short and of the long run; whether the peer
+# over libosmocore touches a bit.
 Case = collections.namedtuple("Case", "name title few many bits")
 CASES = [
     Case("hear-mixed", "report, mixed log", 1, 3, True),
@@ -62,11 +66,21 @@ CASES = [
     Case("book-full", "book, a full index", 10, 60, True),
     Case("book-report", "book, no transfer", 10, 60, True),
     Case("fresh-bookings", "fresh bookings", 10, 60, False),
+    Case("take-8", "take 8 bits", 2, 6, True),
+    Case("take-56", "take 56 bits", 2, 4, True),
+    Case("take-few", "take 5 bits, 3 bytes lent", 10, 40, True),
+    Case("take-refused", "take, refused", 10, 60, False),
+    Case("skip", "skip 8 bits", 2, 6, False),
+    Case("left", "count the bits left", 2, 6, False),
 ]
 IMPLEMENTATIONS = ["library", "plain", "osmo"]
-CALLS = ["fresh", "hear", "build", "read_header", "read_continuation", "due_frame"]
-PLAIN_CALLS = ["fresh", "hear", "build", "read_header", "read_continuation", "layout"]
-TRANSPORT_CALLS = ["read_transport", "build_transport", "fresh_bookings", "book"]
+# Parts of the library: each call, and its name in (a).
+BLOCK_CALLS = {"make_receiver": "fresh", "hear": "hear", "build_blocks": "build", "read_header": "read_header",
+               "read_continuation": "read_continuation", "find_due_frame": "layout"}
+TRANSPORT_CALLS = {"read_transport": "read_transport", "build_transport": "build_transport",
+                   "make_bookings": "fresh_bookings", "book": "book"}
+STEP_CALLS = {"take_bits": "take", "skip_bits": "skip", "count_left": "left"}
+CALLS = {**BLOCK_CALLS, **TRANSPORT_CALLS, **STEP_CALLS}
 
 # The goals: the most that the library may take of plain C; less than this of libosmocore; bytes of stack.
 OF_PLAIN = 1.5
@@ -79,59 +93,68 @@ SEEDS = {"run": ["1", "60"], "check": ["1", "300"]}
 HEAD = [
     "# Measurements",
     "",
-    "The proved library (`include/pierstrand.h`) beside the same calls in C, twice. `python3 bench/run.py` writes this file.",
+    "The proved library (`include/pierstrand.h`) beside the same calls in C, twice. `python3 bench/run.py` writes this",
+    "file.",
     "",
     "- **(a)** plain C, shifts over bytes (`plain/`), `gcc -O2`;",
     "- **(b)** the same over libosmocore's `bitvec`, as open TETRA software has it (`osmo/`), `gcc -O2`.",
     "",
 ]
 
-# One sentence or two on how each number was got.
+# How each number was got; written in lines of 120 columns.
 COUNTED = "Callgrind counts the instructions." if tools.NATIVE else \
-    "The kit's emulator writes a line for each instruction executed, and the lines are counted; there are no times, since times under an emulator say nothing."
+    "The kit's emulator writes a line for each instruction executed, and the lines are counted; there are no times," \
+    " since times under an emulator say nothing."
 HOW = {
-    "instructions": [
-        "x86-64 instructions of one call, with its loop and its arguments: the driver (`measure.c`) makes the calls of a case in a short and in a long run, and the",
-        "difference is divided by the calls that the long one has more. " + COUNTED,
-        "A string instruction that repeats counts once for each repeat; `memcpy` and `memset` of the one C library that all three use count too.",
-    ],
-    "same": [
-        "Where there is no goal for (b), it touches no bit: it runs the same source as (a). The driver holds every answer and every message against the expected one,",
-        "and a sum over all answers and all written bytes is the same for all three. Programs over the three, and over both peers at `-Os`, were held against the second",
-        "program (`second/`), byte for byte: %s.",
-    ],
-    "logs": [
-        "What the reports bring. A log is whole multiframes, slot 1 and slot 3 of each frame in turn, heard again and",
-        "again by one receiver; of the refused reports none is accepted. The run is a header in both slots of two",
-        "frames and then 15 blocks. Of the runs that are lost, each ends at the header of the next, after one block;",
-        "the last ends at a block that is not heard. The copies are of one message at a time, its header in both slots",
-        "of four frames; with another message between, the headers of two senders come in turn, the one's in slot 1",
-        "and the other's in slot 3 of four frames. The mixed log has short messages, runs and copies, two senders in",
-        "turn, messages of others, a block that is not heard, two damaged headers and a damaged block.",
-    ],
-    "sdus": [
-        "What the reads and builds of SDS-TL bring. A transfer has 128 bits of user data, in a DM-SDS DATA; with storage it has a forward address of SSI and extension. It is",
-        "lent in 512 bytes, as pierstrand_hear hands it over, the one short report of 3 bytes apart. A booking has a copy of its index; `again` is the 16th newest of 32.",
-    ],
-    "size": [
-        "Bytes of what the ten calls reach, by the sections of an object in which the linker left only that; without the C library. (a) has the same ten.",
-        "Beside them what some of the calls reach alone, code and data together; they share functions, so these do not add up.",
-        "Of each function that stands in the library, those that call it: what is not in the list was copied into its callers.",
-    ],
-    "stack": [
-        "Bytes below the caller that a call touches, with its return address and what is pushed for it: the driver paints 16384 bytes, makes the call, and looks how deep the",
-        "paint is gone. The deepest call of each case.",
-    ],
-    "lines": [
-        "Lines that are not empty, comments among them. `specs/` has the definitions that contracts speak of: these are to be read. `src/` has the code, and a contract at",
-        "each function. `proofs/` shows that the code keeps the contracts: the prover reads it, and nobody else has to.",
-    ],
-    "gate": [
-        "Seconds that `rt ci` gives for the proof of each crate, and those for its edits, which have to be refused, added",
-        "up: of `rt ci` for the headline edits, each the whole crate from nothing, and of `tests/edits` for all others, over",
-        "what is proved. Crates and edits run beside each other.",
-    ],
+    "instructions":
+        "x86-64 instructions of one call, with its loop and its arguments: the driver (`measure.c`) makes the calls of"
+        " a case in a short and in a long run, and the difference is divided by the calls that the long one has more. "
+        + COUNTED + " A string instruction that repeats counts once for each repeat; `memcpy` and `memset` of the one C"
+        " library that all three use count too.",
+    "same":
+        "Where there is no goal for (b), it touches no bit. The driver holds every answer and every message against the"
+        " expected one, and a sum over all answers and all written bytes is the same for all three. Programs over the"
+        " three, and over both peers at `-Os`, were held against the second program (`second/`), byte for byte, but for"
+        " the steps over bits, which it does not have: %s.",
+    "logs":
+        "What the reports bring. A log is whole multiframes, slot 1 and slot 3 of each frame in turn, heard again and"
+        " again by one receiver; of the refused reports none is accepted. The run is a header in both slots of two"
+        " frames and then 15 blocks. Of the runs that are lost, each ends at the header of the next, after one block;"
+        " the last ends at a block that is not heard. The copies are of one message at a time, its header in both"
+        " slots of four frames; with another message between, the headers of two senders come in turn, the one's in"
+        " slot 1 and the other's in slot 3 of four frames. The mixed log has short messages, runs and copies, two"
+        " senders in turn, messages of others, a block that is not heard, two damaged headers and a damaged block.",
+    "sdus":
+        "What the reads and builds of SDS-TL bring. A transfer has 128 bits of user data, in a DM-SDS DATA; with"
+        " storage it has a forward address of SSI and extension. It is lent in 512 bytes, as pierstrand_hear hands it"
+        " over, the one short report of 3 bytes apart. A booking has a copy of its index; `again` is the 16th newest of"
+        " 32.",
+    "steps":
+        "What the steps over bits bring. One step begins where the last one ended, from bit 5 of 32 bytes on, those of"
+        " 56 bits of 512 bytes; of 3 bytes from their first bit on. The step that is refused has one bit less than it"
+        " asks for.",
+    "size":
+        "Bytes of what the %d calls reach, by the sections of an object in which the linker left only that; without the"
+        " C library. (a) has the same. Beside them what some of the calls reach alone, code and data together; they"
+        " share functions, so these do not add up. Of each function that stands in the library, those that call it:"
+        " what is not in the list was copied into its callers." % len(CALLS),
+    "stack":
+        "Bytes below the caller that a call touches, with its return address and what is pushed for it: the driver"
+        " paints 16384 bytes, makes the call, and looks how deep the paint is gone. The deepest call of each case.",
+    "lines":
+        "Lines that are not empty, comments among them. `specs/` has the definitions that contracts speak of: these are"
+        " to be read. `src/` has the code, and a contract at each function. `proofs/` shows that the code keeps the"
+        " contracts: the prover reads it, and nobody else has to.",
+    "gate":
+        "Seconds that `rt ci` gives for the proof of each crate, and those for its edits, which have to be refused,"
+        " added up: of `rt ci` for the headline edits, each the whole crate from nothing, and of `tests/edits` for all"
+        " others, over what is proved. Crates and edits run beside each other.",
 }
+
+
+def prose(text):
+    """Lines of 120 columns, and an empty one."""
+    return textwrap.wrap(text, 120, break_long_words=False, break_on_hyphens=False) + [""]
 
 
 def table(head, rows, column="---:|"):
@@ -151,7 +174,8 @@ def met(yes):
 # ---- instructions and stack
 
 def checked(programs):
-    """What `measure check` says of each case: calls, kinds of reports, and the stack by implementation. Stops where the answers differ."""
+    """What `measure check` says of each case: calls, kinds of reports, and the stack by implementation. Stops where the
+    answers differ."""
     found, sums = {}, {}
     for name, program in programs.items():
         for line in tools.run(program, "check").splitlines():
@@ -171,9 +195,10 @@ def instructions(programs, cases, found):
     for case in cases:
         counts[case.name] = {}
         for name, program in programs.items():
-            few, many = (tools.count(program, "count", case.name, "%06d" % passes) for passes in (case.few, case.many))
+            few, many = (tools.count(program, "count", case.name, "%06d" % of) for of in (case.few, case.many))
             counts[case.name][name] = (many - few) / ((case.many - case.few) * found[case.name]["calls"])
-        print("%s: %s" % (case.name, ", ".join("%s %.1f" % pair for pair in counts[case.name].items())), file=sys.stderr)
+        of = ", ".join("%s %.1f" % pair for pair in counts[case.name].items())
+        print("%s: %s" % (case.name, of), file=sys.stderr)
     return counts
 
 
@@ -185,9 +210,10 @@ def instruction_lines(cases, counts):
         plain.append((to_plain, case.title))
         if case.bits:
             osmo.append((to_osmo, case.title))
-        goals = [met(to_plain <= OF_PLAIN), met(to_osmo < OF_OSMO) if case.bits else "-"]
-        rows.append([case.title, *("%.1f" % number for number in of), "%.2f" % to_plain, goals[0], "%.2f" % to_osmo, goals[1]])
-    lines = table(["a call", "library", "(a)", "(b)", "to (a)", "at most %s" % OF_PLAIN, "to (b)", "below %s" % OF_OSMO], rows)
+        rows.append([case.title, *("%.1f" % number for number in of), "%.2f" % to_plain, met(to_plain <= OF_PLAIN),
+                     "%.2f" % to_osmo, met(to_osmo < OF_OSMO) if case.bits else "-"])
+    goals = ["to (a)", "at most %s" % OF_PLAIN, "to (b)", "below %s" % OF_OSMO]
+    lines = table(["a call", "library", "(a)", "(b)", *goals], rows)
     goals = [["instructions, at most %s of (a)" % OF_PLAIN, *how_many(plain, lambda ratio: ratio <= OF_PLAIN)]]
     if osmo:
         goals.append(["instructions, below %s of (b)" % OF_OSMO, *how_many(osmo, lambda ratio: ratio < OF_OSMO)])
@@ -203,8 +229,8 @@ def how_many(ratios, good):
 def stack_lines(cases, found):
     rows = [[case.title, *(found[case.name]["stack"][name] for name in IMPLEMENTATIONS)] for case in cases]
     deepest = max([found[case.name]["stack"]["library"] for case in cases if case.name.startswith("hear")], default=0)
-    goals = [["stack of hear, at most %d bytes" % STACK, met(deepest <= STACK), "%d bytes" % deepest]] if deepest else []
-    return table(["a call", "library", "(a)", "(b)"], rows), goals
+    goal = ["stack of hear, at most %d bytes" % STACK, met(deepest <= STACK), "%d bytes" % deepest]
+    return table(["a call", "library", "(a)", "(b)"], rows), [goal] if deepest else []
 
 
 # ---- size
@@ -218,10 +244,12 @@ def kept(folder, name, entries, file):
 
 
 def sections(file):
-    """Bytes of code, of read-only data and of data in an object. What only describes code (.eh_frame) is none of them."""
+    """Bytes of code, of read-only data and of data in an object. What only describes code (.eh_frame) is none of
+    them."""
     code = constant = data = 0
     for line in tools.said([tools.PREFIX + "readelf", "-SW", file]).splitlines():
-        found = re.match(r"\s*\[ *\d+\] (\S+)\s+(PROGBITS|NOBITS)\s+[0-9a-f]+ [0-9a-f]+ ([0-9a-f]+) [0-9a-f]+ *([A-Z]*) ", line)
+        found = re.match(r"\s*\[ *\d+\] (\S+)\s+(PROGBITS|NOBITS)\s+[0-9a-f]+ [0-9a-f]+ ([0-9a-f]+) [0-9a-f]+"
+                         r" *([A-Z]*) ", line)
         if not found or "A" not in found[4] or found[1].startswith((".eh_frame", ".note")):
             continue
         size = int(found[3], 16)
@@ -246,44 +274,48 @@ def functions(file):
 
 def times(names):
     """Names in order, each with how often it is there."""
-    return ", ".join("%s%s" % (name, " (%d)" % count if count > 1 else "") for name, count in sorted(collections.Counter(names).items()))
+    counted = sorted(collections.Counter(names).items())
+    return ", ".join("%s%s" % (name, " (%d)" % count if count > 1 else "") for name, count in counted)
 
 
 def size_lines(folder, library):
-    def reached(calls, plain_calls, of):
+    def reached(calls, of):
         """What these calls reach: sections of the library's, and of (a)'s at -O2 and at -Os."""
         found = [sections(kept(folder, "library", ["pierstrand_" + name for name in calls], library))]
         for level in ("O2", "Os"):
             name = "%s-%s" % (of, level)
-            found.append(sections(kept(folder, name, ["dm_" + call for call in plain_calls], os.path.join(folder, name + ".o"))))
+            entries = ["dm_" + call for call in calls.values()]
+            found.append(sections(kept(folder, name, entries, os.path.join(folder, name + ".o"))))
         return found
 
-    parts = [("the six of blocks and receiver", CALLS, PLAIN_CALLS), ("the four of SDS-TL", TRANSPORT_CALLS, TRANSPORT_CALLS)]
-    parts += [("`%s`" % name, [name], [name]) for name in TRANSPORT_CALLS]
-    of_parts = [[name, *(sum(of) for of in reached(calls, plain, "parts"))] for name, calls, plain in parts]
-    sizes = list(zip(["library", "(a) at -O2", "(a) at -Os"], reached(CALLS + TRANSPORT_CALLS, PLAIN_CALLS + TRANSPORT_CALLS, "plain")))
-    ours = sum(sizes[0][1])
+    parts = [("the six of blocks and receiver", BLOCK_CALLS), ("the four of SDS-TL", TRANSPORT_CALLS),
+             ("the three of steps over bits", STEP_CALLS)]
+    parts += [("`%s`" % name, {name: CALLS[name]}) for name in {**TRANSPORT_CALLS, **STEP_CALLS}]
+    of_parts = [[name, *(sum(of) for of in reached(calls, "parts"))] for name, calls in parts]
+    sizes = list(zip(["library", "(a) at -O2", "(a) at -Os"], reached(CALLS, "plain")))
+    ours, plain = sum(sizes[0][1]), sum(sizes[1][1])
     rows = [[name, *of, sum(of), "" if name == "library" else "%.2f" % (ours / sum(of))] for name, of in sizes]
     lines = table(["", "code", "read-only data", "data", "together", "library to it"], rows)
-    lines += table(["reached alone by", "library", "(a) at -O2", "(a) at -Os", "library to -O2"], [[*row, "%.2f" % (row[1] / row[2])] for row in of_parts])
+    lines += table(["reached alone by", "library", "(a) at -O2", "(a) at -Os", "library to -O2"],
+                   [[*row, "%.2f" % (row[1] / row[2])] for row in of_parts])
     library = os.path.join(folder, "library-reached.o")
     callers = image.calls(library)
     rows = [[name, size, times(callers.get(name, []))] for name, size in functions(library)]
     lines += table(["function of the library", "bytes", "called from"], rows)
-    ratio = ours / sum(sizes[1][1])
-    return lines, [["size, at most %s of (a) at -O2" % OF_PLAIN, met(ratio <= OF_PLAIN), "%.2f: %d bytes to %d" % (ratio, ours, sum(sizes[1][1]))]]
+    said = "%.2f: %d bytes to %d" % (ours / plain, ours, plain)
+    return lines, [["size, at most %s of (a) at -O2" % OF_PLAIN, met(ours / plain <= OF_PLAIN), said]]
 
 
 # ---- lines
 
 def filled(*paths):
     """The lines of these files, and of all files below these folders, that are not empty."""
+    files = [path for path in paths if os.path.isfile(path)]
+    files += [os.path.join(at, name) for path in paths for at, _, names in os.walk(path) for name in names]
     count = 0
-    for path in paths:
-        files = [path] if os.path.isfile(path) else [os.path.join(at, name) for at, _, names in os.walk(path) for name in names]
-        for file in files:
-            with open(file, encoding="utf-8") as text:
-                count += sum(1 for line in text if line.strip())
+    for file in files:
+        with open(file, encoding="utf-8") as text:
+            count += sum(1 for line in text if line.strip())
     return count
 
 
@@ -301,16 +333,21 @@ def crates():
 def line_lines():
     names, library = crates()
     rows, sums = [], {}
-    for group, members in [("the library", [name for name in names if name in library]), ("the rest", [name for name in names if name not in library])]:
+    groups = [("the library", [name for name in names if name in library]),
+              ("the rest", [name for name in names if name not in library])]
+    for group, members in groups:
         for name in members:
             of = [filled(os.path.join(tools.TOP, "crates", name, part)) for part in ("specs", "src", "proofs")]
             rows.append(["`%s`" % name, *of])
             sums[group] = [one + other for one, other in zip(sums.get(group, [0] * 3), of)]
         rows.append(["**%s**" % group, *sums[group]])
     lines = table(["crate", "definitions (`specs/`)", "code and contracts (`src/`)", "proofs (`proofs/`)"], rows)
-    shared = ["plain/pierstrand_plain.h", "shared/rules.h", "shared/receiver.h", "shared/transport.h"]
-    peers = [("(a)", ["plain/pierstrand_plain.c", "plain/transport.h"]), ("(b)", ["osmo/pierstrand_osmo.c", "osmo/transport.h"]), ("both", shared)]
-    rows = [["%s: %s" % (name, ", ".join("`%s`" % file for file in files)), filled(*(os.path.join(tools.HERE, file) for file in files))] for name, files in peers]
+    peers = [("(a): `%s`", ["plain/pierstrand_plain.c", "plain/transport.h"]),
+             ("(b): `%s`", ["osmo/pierstrand_osmo.c", "osmo/transport.h"]),
+             ("both: `%s`", ["plain/pierstrand_plain.h", "shared/rules.h", "shared/receiver.h", "shared/transport.h",
+                             "shared/steps.h"])]
+    rows = [[name % "`, `".join(files), filled(*(os.path.join(tools.HERE, file) for file in files))]
+            for name, files in peers]
     return lines + table(["C", "lines"], rows)
 
 
@@ -331,10 +368,12 @@ def gate_lines():
                 edits.setdefault(edit[1], []).append(int(edit[2]))
             elif re.match(r"(rt: ok,|rt: FAILED:|\d+ passed, \d+ failed)", line):
                 ends.append("`%s`" % line.strip())
-    rows = [["`%s`" % name, proofs[name], len(edits.get(name, [])), sum(edits.get(name, []))] for name in crates()[0] if name in proofs]
-    rows.append(["**all**", sum(proofs.values()), sum(len(of) for of in edits.values()), sum(sum(of) for of in edits.values())])
+    rows = [["`%s`" % name, proofs[name], len(edits.get(name, [])), sum(edits.get(name, []))]
+            for name in crates()[0] if name in proofs]
+    every = [seconds for of in edits.values() for seconds in of]
+    rows.append(["**all**", sum(proofs.values()), len(every), sum(every)])
     when = datetime.datetime.fromtimestamp(os.path.getmtime(path)).strftime("%Y-%m-%d %H:%M")
-    lines = ["From `target/gate.txt` of %s: %s." % (when, "; ".join(ends) or "no last line"), ""]
+    lines = prose("From `target/gate.txt` of %s: %s." % (when, "; ".join(ends) or "no last line"))
     return lines + table(["crate", "proof, s", "edits refused", "edits, s"], rows)
 
 
@@ -348,8 +387,9 @@ def commit():
     if not os.path.exists(os.path.join(tools.TOP, ".git")):
         return "not known: no `.git`"
     git = ["git", "-C", tools.TOP]
-    changed = tools.said(git + ["status", "--porcelain", "--", "crates", "crates.txt", "include", "bench", ":!bench/RESULTS.md"])
-    return "`%s`%s" % (tools.said(git + ["rev-parse", "--short=12", "HEAD"]).strip(), ", with changes that are not committed" if changed else "")
+    of = ["crates", "crates.txt", "include", "bench", ":!bench/RESULTS.md"]
+    changed = ", with changes that are not committed" if tools.said(git + ["status", "--porcelain", "--", *of]) else ""
+    return "`%s`%s" % (tools.said(git + ["rev-parse", "--short=12", "HEAD"]).strip(), changed)
 
 
 def osmo_version():
@@ -363,15 +403,17 @@ def osmo_version():
 
 
 def head_lines(library):
+    built = "`%s`, `rt staticlib board`; kit `%s`" % (os.path.relpath(library, tools.TOP), first_line("rt", "version"))
+    callgrind = tools.NATIVE and first_line("valgrind", "--version") + ", callgrind"
     rows = [
         ["date", datetime.date.today().isoformat()],
         ["commit", commit()],
         ["machine", "%s, %d processors" % (platform.machine(), os.cpu_count())],
-        ["the library", "`%s`, `rt staticlib board`; kit `%s`" % (os.path.relpath(library, tools.TOP), first_line("rt", "version"))],
+        ["the library", built],
         ["compiler of the peers", first_line(tools.PREFIX + "gcc", "--version")],
         ["C library", first_line(*(tools.runner()[:2] if not tools.NATIVE else ["ldd"]), "--version")],
         ["(b) stands on", osmo_version()],
-        ["counted by", first_line("valgrind", "--version") + ", callgrind" if tools.NATIVE else first_line(tools.emulator(), "--version")],
+        ["counted by", callgrind or first_line(tools.emulator(), "--version")],
     ]
     return table(["", ""], rows, "---|")
 
@@ -380,10 +422,12 @@ def head_lines(library):
 
 def compare(folder, seeds):
     """Holds the library's and the peers' programs against the second program; the line of counts."""
-    second = ["--manifest-path", os.path.join(tools.TOP, "second", "Cargo.toml"), "--target-dir", os.path.join(tools.TOP, "target", "second")]
+    second = ["--manifest-path", os.path.join(tools.TOP, "second", "Cargo.toml"),
+              "--target-dir", os.path.join(tools.TOP, "target", "second")]
     if subprocess.run(["cargo", "build", "--release", "--offline", "--quiet", *second]).returncode:
         sys.exit("cargo did not build second/")
-    words = [sys.executable, os.path.join(tools.HERE, "check.py"), "--peers", folder, "--run", " ".join(tools.runner()), "--seeds", *seeds]
+    words = [sys.executable, os.path.join(tools.HERE, "check.py"), "--peers", folder,
+             "--run", " ".join(tools.runner()), "--seeds", *seeds]
     ended = subprocess.run(words, stdout=subprocess.PIPE, text=True, env=tools.environment())
     if ended.returncode:
         sys.exit("a program differs from the second one:\n" + ended.stdout)
@@ -416,12 +460,13 @@ def everything(words):
     size, size_goals = size_lines(folder, words.library)
     stack, stack_goals = stack_lines(CASES, found)
     goals = goal_lines(goals + size_goals + stack_goals)
-    kinds = [[case.title, found[case.name]["calls"], *found[case.name]["kinds"]] for case in CASES if case.name.startswith("hear")]
-    logs = table(["log", "reports", "silent", "headers", "blocks"], kinds)
-    same = "\n".join(HOW["same"]) % compared
+    kinds = [[case.title, found[case.name]["calls"], *found[case.name]["kinds"]]
+             for case in CASES if case.name.startswith("hear")]
+    logs = prose(HOW["logs"]) + table(["log", "reports", "silent", "headers", "blocks"], kinds)
+    said = prose(HOW["same"] % compared) + logs + prose(HOW["sdus"]) + prose(HOW["steps"])
     parts = [
-        ("Goals", [], goals),
-        ("Instructions", HOW["instructions"], counted + [same, ""] + HOW["logs"] + [""] + logs + HOW["sdus"] + [""]),
+        ("Goals", "", goals),
+        ("Instructions", HOW["instructions"], counted + said),
         ("Size", HOW["size"], size),
         ("Stack", HOW["stack"], stack),
         ("Lines", HOW["lines"], line_lines()),
@@ -429,7 +474,7 @@ def everything(words):
     ]
     lines = HEAD + head_lines(words.library)
     for title, how, what in parts:
-        lines += ["## " + title, ""] + (how + [""] if how else []) + what
+        lines += ["## " + title, ""] + (prose(how) if how else []) + what
     with open(os.path.join(tools.HERE, "RESULTS.md"), "w", encoding="utf-8") as text:
         text.write("\n".join(lines).rstrip() + "\n")
     print("\n".join(goals) + "\nbench/RESULTS.md is written")
@@ -445,7 +490,8 @@ def main():
     words = parser.parse_args()
     lacking = tools.missing(second=not words.quick)
     if lacking:
-        sys.exit("\n".join(["Nothing was measured, nothing was changed. Missing:"] + ["  " + line for line in lacking] + ["bench/README.md says more."]))
+        said = ["Nothing was measured, nothing was changed. Missing:"] + ["  " + line for line in lacking]
+        sys.exit("\n".join(said + ["bench/README.md says more."]))
     if not words.library:
         words.library = os.path.join(tools.TOP, "target", "staticlib", "libboard.a")
         if subprocess.run(["rt", "staticlib", "board"], cwd=tools.TOP, stdout=subprocess.DEVNULL).returncode:

@@ -7,7 +7,8 @@ import sys
 
 HERE = os.path.dirname(os.path.abspath(__file__))
 TOP = os.path.dirname(HERE)
-# An x86-64 machine has its own compiler, libraries and counter; any other has Debian's for x86-64, and the emulator of the Rattle kit.
+# An x86-64 machine has its own compiler, libraries and counter; any other has Debian's for x86-64, and the emulator of
+# the Rattle kit.
 NATIVE = platform.machine() == "x86_64"
 PREFIX = "" if NATIVE else "x86_64-linux-gnu-"
 LIBC = "/usr/x86_64-linux-gnu"
@@ -23,7 +24,8 @@ def said(words, **more):
 
 def kit():
     """The folder of the Rattle kit."""
-    return os.environ.get("RATTLE_HOME") or os.path.dirname(os.path.dirname(os.path.realpath(shutil.which("rt") or "/rt")))
+    rt = os.path.realpath(shutil.which("rt") or "/rt")
+    return os.environ.get("RATTLE_HOME") or os.path.dirname(os.path.dirname(rt))
 
 
 def emulator():
@@ -31,13 +33,15 @@ def emulator():
 
 
 def missing(second):
-    """A line for each thing that is not there: what, and where it comes from. The second program is built only where it is asked for."""
+    """A line for each thing that is not there: what, and where it comes from. The second program is built only where it
+    is asked for."""
     programs, files = [("make", "make")], []
     if NATIVE:
         programs += [("gcc", "gcc libc6-dev"), ("pkg-config", "pkg-config"), ("valgrind", "valgrind")]
     else:
         programs += [("x86_64-linux-gnu-gcc", "gcc-x86-64-linux-gnu")]
-        files += [(os.path.join(LIBC, name), "libc6-dev-amd64-cross") for name in ("lib/ld-linux-x86-64.so.2", "include/stdio.h")]
+        for name in ("lib/ld-linux-x86-64.so.2", "include/stdio.h"):
+            files.append((os.path.join(LIBC, name), "libc6-dev-amd64-cross"))
     if second:
         programs += [("cargo", "cargo")]
     found = ["%s: apt-get install %s" % what for what in programs if not shutil.which(what[0])]
@@ -54,16 +58,20 @@ def missing_osmo():
         there = shutil.which("pkg-config") and subprocess.run(["pkg-config", "--exists", "libosmocore"]).returncode == 0
         return [] if there else ["libosmocore: apt-get install libosmocore-dev"]
     needed = [os.path.join(OSMO_INCLUDE, name) for name in ("osmocom/core/bitvec.h", "talloc.h")]
-    needed += [os.path.join(OSMO_LIBS, name) for name in ("libosmocore.so", "libtalloc.so.2", "libsctp.so.1", "libmnl.so.0")]
-    lacking = [file for file in needed if not os.path.exists(file)]
-    return ["%s: run bench/get-osmo, which fetches Debian's libosmocore for x86-64 and unpacks it there" % lacking[0]] if lacking else []
+    for name in ("libosmocore.so", "libtalloc.so.2", "libsctp.so.1", "libmnl.so.0"):
+        needed.append(os.path.join(OSMO_LIBS, name))
+    lacking = [file for file in needed if not os.path.exists(file)][:1]
+    return ["%s: run bench/get-osmo, which fetches Debian's libosmocore for x86-64 and unpacks it there" % file
+            for file in lacking]
 
 
 def make(goal, folder, library, include):
     """Has bench/Makefile build a goal into a folder."""
-    words = ["make", "--silent", "-C", HERE, goal, "OUT=" + folder, "CC=%sgcc" % PREFIX, "LIBRARY=" + library, "INCLUDE=" + include, "RUN=" + " ".join(runner())]
+    words = ["make", "--silent", "-C", HERE, goal, "OUT=" + folder, "CC=%sgcc" % PREFIX, "LIBRARY=" + library,
+             "INCLUDE=" + include, "RUN=" + " ".join(runner())]
     if not NATIVE:
-        words += ["OSMO_CFLAGS=-isystem " + OSMO_INCLUDE, "OSMO_LIBS=-L%s -Wl,-rpath-link,%s -losmocore" % (OSMO_LIBS, OSMO_LIBS)]
+        words += ["OSMO_CFLAGS=-isystem " + OSMO_INCLUDE,
+                  "OSMO_LIBS=-L%s -Wl,-rpath-link,%s -losmocore" % (OSMO_LIBS, OSMO_LIBS)]
     if subprocess.run(words, env=environment()).returncode:
         sys.exit("make did not build bench/")
 
@@ -76,7 +84,8 @@ def runner():
 
 
 def environment():
-    """Without the emulator's settings, and with all calls of a library bound at the start, so that the first is like the others."""
+    """Without the emulator's settings, and with all calls of a library bound at the start, so that the first is like
+    the others."""
     kept = {name: value for name, value in os.environ.items() if not name.startswith("QEMU_")}
     return dict(kept, LD_BIND_NOW="1")
 
@@ -96,7 +105,8 @@ def count(*words):
 
 def counted_by_callgrind(words):
     call = ["valgrind", "--tool=callgrind", "--callgrind-out-file=/dev/null"]
-    ended = subprocess.run(call + words, env=environment(), stdout=subprocess.PIPE, stderr=subprocess.PIPE, check=True, text=True)
+    ended = subprocess.run(call + words, env=environment(), stdout=subprocess.PIPE, stderr=subprocess.PIPE, check=True,
+                           text=True)
     return int(ended.stderr.split("Collected :")[1].split()[0])
 
 

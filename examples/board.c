@@ -1,10 +1,11 @@
 /*
  * A unit's slot handler over Pierstrand, in plain C99. examples/run builds and runs it.
  *
- * slot_handler, hand_over and tell_lost are the part to copy. The radio calls slot_handler once for every
- * slot 1 and every slot 3, in their order, heard or not. A message that comes out goes to hand_over, which
- * books it if it is a transfer of SDS-TL; one that is lost on the way goes to tell_lost. All else stands in
- * for the radio: it lays messages out over slots and reports these slots one by one.
+ * slot_handler, hand_over, print_hire and tell_lost are the part to copy. The radio calls slot_handler once
+ * for every slot 1 and every slot 3, in their order, heard or not. A message that comes out goes to hand_over,
+ * which books it if it is a transfer of SDS-TL; what is booked goes to print_hire, which takes two numbers out
+ * of its user data; one that is lost on the way goes to tell_lost. All else stands in for the radio: it lays
+ * messages out over slots and reports these slots one by one.
  *
  * A line that starts with six numbers is one of a slot log, with some words after it: frame, slot,
  * outcome, dropped, fault, bits (docs/READING-THE-LOG.md).
@@ -19,11 +20,11 @@
 #define GROUP 8001
 #define MNI 901
 
-#define HEADER_BYTES (PIERSTRAND_SCH_S + PIERSTRAND_SCH_H)
+#define HEADER_BYTES (PIERSTRAND_BYTES_SCH_S + PIERSTRAND_BYTES_SCH_H)
 
 static struct pierstrand_receiver receiver;
 static struct pierstrand_bookings bookings;
-static uint8_t message[PIERSTRAND_MESSAGE];
+static uint8_t message[PIERSTRAND_BYTES_MESSAGE];
 
 static void print_line(uint8_t frame, uint8_t slot, struct pierstrand_answer a)
 {
@@ -32,39 +33,53 @@ static void print_line(uint8_t frame, uint8_t slot, struct pierstrand_answer a)
 	printf("%*s", 16 - width, "");
 }
 
-/* Eight bits from any bit of the message on. */
-static uint8_t byte_at(size_t bit)
+/* The characters from any bit of the message on, up to the bit where its text ends. */
+static void print_text(size_t at, size_t end)
 {
-	unsigned two = (unsigned)message[bit / 8] << 8 | (bit % 8 != 0 ? message[bit / 8 + 1] : 0);
+	struct pierstrand_step step = pierstrand_take_bits(message, sizeof message, at, 8);
 
-	return (uint8_t)(two >> (8 - bit % 8));
+	for (; step.fault == 0 && step.at <= end; step = pierstrand_take_bits(message, sizeof message, step.at, 8))
+		putchar((int)step.value);
 }
 
-static void print_text(size_t first, size_t bits)
+/* What these units have in the user data of a transfer: a hire's number, a kit's number, and a text after them. */
+#define HIRE_BITS 14
+#define KIT_BITS 10
+
+/* A field after a field, each from where the last one ended. */
+static void print_hire(size_t first, size_t end)
 {
-	for (; bits >= 8; first += 8, bits -= 8)
-		putchar(byte_at(first));
+	struct pierstrand_step hire = pierstrand_take_bits(message, sizeof message, first, HIRE_BITS);
+	struct pierstrand_step kit = pierstrand_take_bits(message, sizeof message, hire.at, KIT_BITS);
+
+	if (hire.fault != 0 || kit.fault != 0 || kit.at > end) {
+		printf("too short for a hire");
+		return;
+	}
+	printf("hire %u, kit %u, ", (unsigned)hire.value, (unsigned)kit.value);
+	print_text(kit.at, end);
 }
 
 /* A whole message. A transfer is booked once, however often it is sent. */
 static void hand_over(struct pierstrand_answer answer)
 {
-	struct pierstrand_booked booked = pierstrand_book(&bookings, answer.fields, answer.bits, message, sizeof message);
+	struct pierstrand_booking booked =
+		pierstrand_book(&bookings, answer.fields, answer.bits, message, sizeof message);
 	const struct pierstrand_transport *it = &booked.transport;
 
 	printf("from %u", answer.fields.source.ssi);
 	switch (booked.mark) {
-	case PIERSTRAND_BOOKED: /* here to act on it */
+	case PIERSTRAND_MARK_BOOKED: /* here to act on it */
 		printf(", reference %u, booked: ", it->message.reference);
-		print_text(it->first, it->bits);
+		print_hire(it->first, it->first + it->bits);
 		break;
-	case PIERSTRAND_AGAIN:
+	case PIERSTRAND_MARK_AGAIN:
 		printf(", reference %u, again", it->message.reference);
 		break;
-	default: /* PIERSTRAND_NOT_BOOKED */
+	default: /* PIERSTRAND_MARK_NONE */
 		if (it->fault == 0) {
 			printf(", reference %u, an answer of kind %u", it->message.reference, it->message.kind);
-		} else if (it->fault == PIERSTRAND_NOT_SDS_TL) {
+		} else if (it->fault == PIERSTRAND_FAULT_NOT_SDS_TL) {
 			printf(": "); /* not of SDS-TL: these units send plain texts too */
 			print_text(0, answer.bits);
 		} else {
@@ -77,7 +92,7 @@ static void hand_over(struct pierstrand_answer answer)
  * A DM-SDS DATA or DM-SDS ACK that was coming in and is lost: here to ask for it again, or to tell who waits for it.
  * A repeat of its header may still bring it.
  */
-static void tell_lost(struct pierstrand_lost lost)
+static void tell_lost(struct pierstrand_loss lost)
 {
 	printf("; a message from %u is lost: type %u, %zu bits were there", lost.source, lost.message_type, lost.bits);
 }
@@ -89,20 +104,20 @@ static void slot_handler(uint8_t frame, uint8_t slot, uint8_t kind, const uint8_
 
 	print_line(frame, slot, answer);
 	switch (answer.outcome) {
-	case PIERSTRAND_UNFRAGMENTED:
-	case PIERSTRAND_JOINED: /* a whole message, in both cases */
+	case PIERSTRAND_OUTCOME_UNFRAGMENTED:
+	case PIERSTRAND_OUTCOME_JOINED: /* a whole message, in both cases */
 		hand_over(answer);
 		break;
-	case PIERSTRAND_OPENED:
+	case PIERSTRAND_OUTCOME_OPENED:
 		printf("a longer message begins");
 		break;
-	case PIERSTRAND_KEPT:
+	case PIERSTRAND_OUTCOME_KEPT:
 		printf("a block of it, kept");
 		break;
-	case PIERSTRAND_COPY:
+	case PIERSTRAND_OUTCOME_COPY:
 		printf("a copy, not handed over again");
 		break;
-	default: /* PIERSTRAND_NOTHING */
+	default: /* PIERSTRAND_OUTCOME_NOTHING */
 		printf("%s", answer.fault != 0 ? "a fault: nothing was taken" : "nothing for this unit");
 	}
 	if (answer.lost.message_type != 0)
@@ -115,7 +130,7 @@ static void slot_handler(uint8_t frame, uint8_t slot, uint8_t kind, const uint8_
 /* What is on the air, by frame and slot. Kind 0: nothing. */
 static struct {
 	uint8_t kind;
-	uint8_t bytes[PIERSTRAND_SCH_F];
+	uint8_t bytes[PIERSTRAND_BYTES_SCH_F];
 } air[19][4];
 
 static void put(uint8_t frame, uint8_t slot, uint8_t kind, const uint8_t *bytes, size_t length)
@@ -135,12 +150,12 @@ static void lay_out(const uint8_t *sent, size_t n, uint8_t fcs, uint8_t frame, u
 		.destination = {.kind = 0, .ssi = INDIVIDUAL},
 		.source = {.kind = 0, .ssi = 7},
 		.mni = MNI,
-		.message = 23,
+		.message_type = 23,
 		.width = 8,
 		.elements = 0x92 | fcs,
 	};
-	static uint8_t out[PIERSTRAND_BLOCKS];
-	struct pierstrand_built built = {0, 0};
+	static uint8_t out[PIERSTRAND_BYTES_BLOCKS];
+	struct pierstrand_block_count built = {0, 0};
 
 	printf(", header in");
 	for (uint8_t gone = 0, at = frame; gone <= countdown; gone++, at = at % 18 + 1) {
@@ -152,19 +167,21 @@ static void lay_out(const uint8_t *sent, size_t n, uint8_t fcs, uint8_t frame, u
 				.frame = at,
 			};
 
-			built = pierstrand_build(sync, countdown - gone, fields, n, sent, (n + 7) / 8, out, sizeof out);
+			built = pierstrand_build_blocks(sync, countdown - gone, fields, n, sent, (n + 7) / 8,
+							out, sizeof out);
 			if (built.fault != 0) {
 				printf(" refused, fault %u\n", built.fault);
 				return;
 			}
-			put(at, slot, PIERSTRAND_HEADER, out, HEADER_BYTES);
+			put(at, slot, PIERSTRAND_KIND_HEADER, out, HEADER_BYTES);
 			printf(" %u/%u", at, slot);
 		}
 	}
 	for (uint8_t i = 0; i < built.blocks; i++) { /* the blocks are the same in each of these builds */
-		struct pierstrand_due due = pierstrand_due_frame(frame, countdown, i);
+		struct pierstrand_due_frame due = pierstrand_find_due_frame(frame, countdown, i);
 
-		put(due.frame, 1, PIERSTRAND_BLOCK, out + HEADER_BYTES + i * PIERSTRAND_SCH_F, PIERSTRAND_SCH_F);
+		put(due.frame, 1, PIERSTRAND_KIND_BLOCK, out + HEADER_BYTES + i * PIERSTRAND_BYTES_SCH_F,
+		    PIERSTRAND_BYTES_SCH_F);
 		printf("%s %u/1", i == 0 ? ", blocks in" : "", due.frame);
 	}
 	printf("\n");
@@ -177,8 +194,8 @@ static void send_text(const char *text, uint8_t frame, uint8_t countdown)
 	lay_out((const uint8_t *)text, 8 * strlen(text), 0, frame, countdown);
 }
 
-/* A text as the user data of a transfer, with an FCS. */
-static void send_transfer(const char *text, uint8_t reference, uint8_t frame, uint8_t countdown)
+/* A hire, a kit and a text as the user data of a transfer, with an FCS. */
+static void send_hire(unsigned hire, unsigned kit, const char *text, uint8_t reference, uint8_t frame)
 {
 	struct pierstrand_message transfer = {
 		.kind = PIERSTRAND_SDS_TRANSFER,
@@ -186,17 +203,24 @@ static void send_transfer(const char *text, uint8_t reference, uint8_t frame, ui
 		.request = 1,
 		.reference = reference,
 	};
-	static uint8_t out[PIERSTRAND_SDU];
-	size_t length = strlen(text);
-	struct pierstrand_sdu sdu =
-		pierstrand_build_transport(23, 1, transfer, 8 * length, (const uint8_t *)text, length, out, sizeof out);
+	static uint8_t user[64], out[PIERSTRAND_BYTES_SDU];
+	unsigned numbers = hire << KIT_BITS | kit; /* 24 bits: three bytes */
+	size_t length = 3 + strlen(text);
+	struct pierstrand_sdu sdu;
 
+	if (length > sizeof user)
+		return;
+	user[0] = (uint8_t)(numbers >> 16);
+	user[1] = (uint8_t)(numbers >> 8);
+	user[2] = (uint8_t)numbers;
+	memcpy(user + 3, text, length - 3);
+	sdu = pierstrand_build_transport(23, 1, transfer, 8 * length, user, length, out, sizeof out);
 	if (sdu.fault != 0) {
 		printf("\na transfer is refused, fault %u\n", sdu.fault);
 		return;
 	}
-	printf("\na transfer, reference %u, %zu characters, %zu bits", reference, length, sdu.bits);
-	lay_out(out, sdu.bits, 1, frame, countdown);
+	printf("\na transfer, reference %u, %zu bytes, %zu bits", reference, length, sdu.bits);
+	lay_out(out, sdu.bits, 1, frame, 0);
 }
 
 /* Reports both slots of so many frames, from `frame` on; idle ones as silence. */
@@ -206,12 +230,12 @@ static void report(uint8_t frame, int frames)
 		for (uint8_t slot = 1; slot <= 3; slot += 2) {
 			const uint8_t *bytes = air[frame][slot].bytes;
 
-			if (air[frame][slot].kind == PIERSTRAND_HEADER)
-				slot_handler(frame, slot, PIERSTRAND_HEADER, bytes, HEADER_BYTES);
-			else if (air[frame][slot].kind == PIERSTRAND_BLOCK)
-				slot_handler(frame, slot, PIERSTRAND_BLOCK, bytes, PIERSTRAND_SCH_F);
+			if (air[frame][slot].kind == PIERSTRAND_KIND_HEADER)
+				slot_handler(frame, slot, PIERSTRAND_KIND_HEADER, bytes, HEADER_BYTES);
+			else if (air[frame][slot].kind == PIERSTRAND_KIND_BLOCK)
+				slot_handler(frame, slot, PIERSTRAND_KIND_BLOCK, bytes, PIERSTRAND_BYTES_SCH_F);
 			else
-				slot_handler(frame, slot, PIERSTRAND_SILENCE, bytes, 0);
+				slot_handler(frame, slot, PIERSTRAND_KIND_SILENCE, bytes, 0);
 			air[frame][slot].kind = 0;
 		}
 	}
@@ -226,7 +250,7 @@ static void refused(uint8_t frame, uint8_t slot, size_t room)
 	int same;
 
 	memcpy(before, message, sizeof before);
-	answer = pierstrand_hear(&receiver, frame, slot, PIERSTRAND_SILENCE, nothing, 0, message, room);
+	answer = pierstrand_hear(&receiver, frame, slot, PIERSTRAND_KIND_SILENCE, nothing, 0, message, room);
 	same = memcmp(before, message, sizeof before) == 0;
 	print_line(frame, slot, answer);
 	printf("refused, and the buffer %s\n", same ? "is as before" : "has changed");
@@ -236,9 +260,10 @@ static void refused(uint8_t frame, uint8_t slot, size_t room)
 static void read_blocks(uint8_t frame, uint8_t block_frame)
 {
 	const uint8_t *both = air[frame][1].bytes;
-	struct pierstrand_header h =
-		pierstrand_read_header(both, PIERSTRAND_SCH_S, both + PIERSTRAND_SCH_S, PIERSTRAND_SCH_H);
-	struct pierstrand_continuation b = pierstrand_read_continuation(air[block_frame][1].bytes, PIERSTRAND_SCH_F);
+	const uint8_t *block = air[block_frame][1].bytes;
+	struct pierstrand_header h = pierstrand_read_header(both, PIERSTRAND_BYTES_SCH_S,
+							    both + PIERSTRAND_BYTES_SCH_S, PIERSTRAND_BYTES_SCH_H);
+	struct pierstrand_continuation b = pierstrand_read_continuation(block, PIERSTRAND_BYTES_SCH_F);
 
 	printf("header: fault %u, frame %u, slot %u, from %u to %u, blocks %u, countdown %u, bits %zu from %zu on\n",
 	       h.fault, h.sync.frame, h.sync.slot + 1, h.fields.source.ssi, h.fields.destination.ssi, h.count,
@@ -250,14 +275,14 @@ static void read_blocks(uint8_t frame, uint8_t block_frame)
 int main(void)
 {
 	static const char answer[] = "Hire 4711: hammer kit 12 and drill kit 3, out 06:40, quarry 5, cage 2 ok";
-	struct pierstrand_fresh fresh = pierstrand_fresh(INDIVIDUAL, GROUP, MNI);
+	struct pierstrand_fresh_receiver fresh = pierstrand_make_receiver(INDIVIDUAL, GROUP, MNI);
 
 	if (fresh.fault != 0) {
 		printf("the unit's settings are refused: fault %u\n", fresh.fault);
 		return 1;
 	}
 	receiver = fresh.receiver;
-	bookings = pierstrand_fresh_bookings();
+	bookings = pierstrand_make_bookings();
 	printf("unit %d, group %d, network %d\n", INDIVIDUAL, GROUP, MNI);
 
 	/* Frame 18 comes where the first block would be due. No block goes there: it is in frame 1. */
@@ -278,9 +303,9 @@ int main(void)
 	report(5, 4);
 
 	/* A hire, booked. Nobody acknowledged it, so it is sent again: another message, with the same reference. */
-	send_transfer("Hire 4712: saw 9", 47, 9, 0);
+	send_hire(4712, 9, "with 2 blades", 47, 9);
 	report(9, 2);
-	send_transfer("Hire 4712: saw 9", 47, 11, 0);
+	send_hire(4712, 9, "with 2 blades", 47, 11);
 	report(11, 2);
 	return 0;
 }

@@ -1,4 +1,5 @@
-"""The calls in the compiled library. Reads an x86-64 object file, or an archive of such, with a section for each function."""
+"""The calls in the compiled library. Reads an x86-64 object file, or an archive of such, with a section for each
+function."""
 import struct
 
 RELOCATIONS, CALL, OF_SECTION = 4, 4, 3  # SHT_RELA, R_X86_64_PLT32, STT_SECTION

@@ -1,9 +1,9 @@
 /*
  * Holds include/pierstrand.h to the library that is linked: sizes, places and numbers.
  *
- * It prints the size, the alignment and the fields of every struct as this compiler has them; board.py holds that to the structs of
- * the crates. Then it makes the calls, with a number of its own for every field, and looks for it at the header's place in bytes that
- * the library wrote. It says what is not so, and ends with 1 then.
+ * It prints the size, the alignment and the fields of every struct as this compiler has them; board.py holds that to
+ * the structs of the crates. Then it makes the calls, with a number of its own for every field, and looks for it at the
+ * header's place in bytes that the library wrote. It says what is not so, and ends with 1 then.
  */
 #include <stdio.h>
 #include <string.h>
@@ -23,33 +23,37 @@ struct shape {
 	const struct field *fields;
 };
 
-#define FIELD(type, name) {#name, offsetof(struct pierstrand_##type, name), sizeof ((struct pierstrand_##type *)0)->name}
+#define FIELD(type, name) \
+	{#name, offsetof(struct pierstrand_##type, name), sizeof ((struct pierstrand_##type *)0)->name}
 #define COUNT(type) (sizeof type##_fields / sizeof type##_fields[0])
 #define SHAPE(type, ...) \
 	struct type##_after_byte { char byte; struct pierstrand_##type it; }; \
 	static const struct field type##_fields[] = {__VA_ARGS__}; \
-	static const struct shape type = {#type, sizeof (struct pierstrand_##type), offsetof(struct type##_after_byte, it), COUNT(type), type##_fields}
+	static const struct shape type = {#type, sizeof (struct pierstrand_##type), \
+					  offsetof(struct type##_after_byte, it), COUNT(type), type##_fields}
 
 /* Fields of a struct within another: `in` is the way there, with its dots. */
 #define SYNC(type, in) FIELD(type, in system), FIELD(type, in usage), FIELD(type, in slot), FIELD(type, in frame)
 #define ADDRESS(type, in) FIELD(type, in kind), FIELD(type, in ssi)
 #define FIELDS(type, in) \
-	ADDRESS(type, in destination.), ADDRESS(type, in source.), FIELD(type, in mni), FIELD(type, in message), \
+	ADDRESS(type, in destination.), ADDRESS(type, in source.), FIELD(type, in mni), FIELD(type, in message_type), \
 	FIELD(type, in width), FIELD(type, in elements)
 #define LOST(type, in) FIELD(type, in source), FIELD(type, in message_type), FIELD(type, in bits)
 #define RECEIVER(type, in) \
 	FIELD(type, in settings.individual), FIELD(type, in settings.group), FIELD(type, in settings.mni), \
 	FIELD(type, in place.frame), FIELD(type, in place.slot), \
 	FIELD(type, in near.count), FIELD(type, in near.places), \
-	FIELDS(type, in assembly.run.fields.), FIELD(type, in assembly.run.raw.high), FIELD(type, in assembly.run.raw.low), \
+	FIELDS(type, in assembly.run.fields.), \
+	FIELD(type, in assembly.run.raw.high), FIELD(type, in assembly.run.raw.low), \
 	FIELD(type, in assembly.run.held), FIELD(type, in assembly.run.again), FIELD(type, in assembly.run.more), \
 	FIELD(type, in assembly.run.frame), FIELD(type, in assembly.run.countdown), FIELD(type, in assembly.run.kept), \
 	FIELD(type, in assembly.bits), FIELD(type, in assembly.store)
 
 #define MESSAGE(type, in) \
-	FIELD(type, in kind), FIELD(type, in addressed), FIELD(type, in mni), FIELD(type, in ssi), FIELD(type, in protocol), \
-	FIELD(type, in request), FIELD(type, in short_form), FIELD(type, in required), FIELD(type, in storage), \
-	FIELD(type, in status), FIELD(type, in reference), FIELD(type, in validity), FIELD(type, in forward), FIELD(type, in address)
+	FIELD(type, in kind), FIELD(type, in addressed), FIELD(type, in mni), FIELD(type, in ssi), \
+	FIELD(type, in protocol), FIELD(type, in request), FIELD(type, in short_form), FIELD(type, in required), \
+	FIELD(type, in storage), FIELD(type, in status), FIELD(type, in reference), FIELD(type, in validity), \
+	FIELD(type, in forward), FIELD(type, in address)
 #define TRANSPORT(type, in) \
 	FIELD(type, in fault), MESSAGE(type, in message.), FIELD(type, in first), FIELD(type, in bits)
 
@@ -58,34 +62,38 @@ SHAPE(address, ADDRESS(address, ));
 SHAPE(fields, FIELDS(fields, ));
 SHAPE(header, FIELD(header, fault), SYNC(header, sync.), FIELD(header, fragmented), FIELD(header, count),
       FIELD(header, countdown), FIELDS(header, fields.), FIELD(header, first), FIELD(header, bits));
-SHAPE(continuation, FIELD(continuation, fault), FIELD(continuation, last), FIELD(continuation, first), FIELD(continuation, bits));
-SHAPE(built, FIELD(built, fault), FIELD(built, blocks));
-SHAPE(due, FIELD(due, fault), FIELD(due, frame));
-SHAPE(lost, LOST(lost, ));
+SHAPE(continuation, FIELD(continuation, fault), FIELD(continuation, last), FIELD(continuation, first),
+      FIELD(continuation, bits));
+SHAPE(block_count, FIELD(block_count, fault), FIELD(block_count, blocks));
+SHAPE(due_frame, FIELD(due_frame, fault), FIELD(due_frame, frame));
+SHAPE(loss, LOST(loss, ));
 SHAPE(answer, FIELD(answer, outcome), FIELD(answer, dropped), FIELD(answer, fault), FIELD(answer, bits),
       FIELDS(answer, fields.), LOST(answer, lost.));
 SHAPE(receiver, RECEIVER(receiver, ));
-SHAPE(fresh, FIELD(fresh, fault), RECEIVER(fresh, receiver.));
+SHAPE(fresh_receiver, FIELD(fresh_receiver, fault), RECEIVER(fresh_receiver, receiver.));
 SHAPE(message, MESSAGE(message, ));
 SHAPE(transport, TRANSPORT(transport, ));
 SHAPE(sdu, FIELD(sdu, fault), FIELD(sdu, bits));
 SHAPE(bookings, FIELD(bookings, count), FIELD(bookings, pairs));
-SHAPE(booked, FIELD(booked, mark), TRANSPORT(booked, transport.));
+SHAPE(booking, FIELD(booking, mark), TRANSPORT(booking, transport.));
+SHAPE(step, FIELD(step, fault), FIELD(step, value), FIELD(step, at));
 
-/* Each struct set by position to 1, 2, 3 ..: with a field more or elsewhere, a number is under another name, or it does not compile. */
+/* Each struct set by position to 1, 2, 3 ..: with a field more or elsewhere, a number is under another name, or it does
+   not compile. */
 static const struct pierstrand_sync set_sync = {1, 2, 3, 4};
 static const struct pierstrand_address set_address = {1, 2};
 static const struct pierstrand_fields set_fields = {{1, 2}, {3, 4}, 5, 6, 7, 8};
-static const struct pierstrand_header set_header = {1, {2, 3, 4, 5}, 6, 7, 8, {{9, 10}, {11, 12}, 13, 14, 15, 16}, 17, 18};
+static const struct pierstrand_header set_header = {
+	1, {2, 3, 4, 5}, 6, 7, 8, {{9, 10}, {11, 12}, 13, 14, 15, 16}, 17, 18};
 static const struct pierstrand_continuation set_continuation = {1, 2, 3, 4};
-static const struct pierstrand_built set_built = {1, 2};
-static const struct pierstrand_due set_due = {1, 2};
-static const struct pierstrand_lost set_lost = {1, 2, 3};
+static const struct pierstrand_block_count set_block_count = {1, 2};
+static const struct pierstrand_due_frame set_due_frame = {1, 2};
+static const struct pierstrand_loss set_loss = {1, 2, 3};
 static const struct pierstrand_answer set_answer = {1, 2, 3, 4, {{5, 6}, {7, 8}, 9, 10, 11, 12}, {13, 14, 15}};
 static const struct pierstrand_receiver set_receiver = {
 	{1, 2, 3}, {4, 5}, {6, {7}},
 	{{{{8, 9}, {10, 11}, 12, 13, 14, 15}, {16, 17}, 18, 19, 20, 21, 22, 23}, 24, {25}}};
-static const struct pierstrand_fresh set_fresh = {
+static const struct pierstrand_fresh_receiver set_fresh_receiver = {
 	1, {{2, 3, 4}, {5, 6}, {7, {8}},
 	    {{{{9, 10}, {11, 12}, 13, 14, 15, 16}, {17, 18}, 19, 20, 21, 22, 23, 24}, 25, {26}}}};
 
@@ -93,7 +101,9 @@ static const struct pierstrand_message set_message = {1, 2, 3, 4, 5, 6, 7, 8, 9,
 static const struct pierstrand_transport set_transport = {1, {2, 3, 4, 5, 6, 7, 8, 9, 10, 11, 12, 13, 14, 15}, 16, 17};
 static const struct pierstrand_sdu set_sdu = {1, 2};
 static const struct pierstrand_bookings set_bookings = {1, {2}};
-static const struct pierstrand_booked set_booked = {1, {2, {3, 4, 5, 6, 7, 8, 9, 10, 11, 12, 13, 14, 15, 16}, 17, 18}};
+static const struct pierstrand_booking set_booking = {
+	1, {2, {3, 4, 5, 6, 7, 8, 9, 10, 11, 12, 13, 14, 15, 16}, 17, 18}};
+static const struct pierstrand_step set_step = {1, 2, 3};
 
 /* ---- What is held. */
 
@@ -142,7 +152,8 @@ static void print_shape(const struct shape *s, const void *set)
 		printf("%5zu %3zu  ", s->fields[i].at, s->fields[i].size);
 		print_name(s->fields[i].name);
 		putchar('\n');
-		hold(number(set, &s->fields[i]) == i + 1, "by position", s->fields[i].name, number(set, &s->fields[i]), i + 1);
+		hold(number(set, &s->fields[i]) == i + 1, "by position", s->fields[i].name,
+		     number(set, &s->fields[i]), i + 1);
 	}
 }
 
@@ -151,7 +162,8 @@ static void holds(const struct shape *s, const void *bytes, const uint64_t *numb
 {
 	for (size_t i = 0; i < s->count; i++)
 		if (s->fields[i].size <= sizeof numbers[i])
-			hold(number(bytes, &s->fields[i]) == numbers[i], s->name, s->fields[i].name, number(bytes, &s->fields[i]), numbers[i]);
+			hold(number(bytes, &s->fields[i]) == numbers[i], s->name, s->fields[i].name,
+			     number(bytes, &s->fields[i]), numbers[i]);
 }
 
 #define HOLDS(shape, bytes, ...) holds(&shape, bytes, (const uint64_t[COUNT(shape)]){__VA_ARGS__})
@@ -162,8 +174,8 @@ static void same(const struct shape *s, const void *one, const void *other)
 	for (size_t i = 0; i < s->count; i++) {
 		const struct field *f = &s->fields[i];
 
-		hold(memcmp((const uint8_t *)one + f->at, (const uint8_t *)other + f->at, f->size) == 0, s->name, f->name,
-		     number(one, f), number(other, f));
+		hold(memcmp((const uint8_t *)one + f->at, (const uint8_t *)other + f->at, f->size) == 0,
+		     s->name, f->name, number(one, f), number(other, f));
 	}
 }
 
@@ -178,7 +190,7 @@ static void same(const struct shape *s, const void *one, const void *other)
 #define SHORT_TO(ssi) 0, ssi, 2, 0, MNI, 15, 33, 0x1A2A55A5A
 #define SHORT_FIELDS SHORT_TO(GROUP)
 #define NO_FIELDS 0, 0, 0, 0, 0, 0, 0, 0
-#define HEADER_BYTES (PIERSTRAND_SCH_S + PIERSTRAND_SCH_H)
+#define HEADER_BYTES (PIERSTRAND_BYTES_SCH_S + PIERSTRAND_BYTES_SCH_H)
 
 static const uint8_t long_header[24] = {0xB0, 0x11, 0xA0, 0x00, 0x00, 0x00, 0x00, 0x00, 0x00, 0x19, 0xC1, 0x23,
 					0x45, 0x65, 0x95, 0x0C, 0x86, 0xAF, 0x37, 0xBE, 0x55, 0x9E, 0x2E, 0x80};
@@ -188,21 +200,24 @@ static const struct pierstrand_sync long_sync = {.system = 11, .usage = 1, .slot
 static const struct pierstrand_sync short_sync = {.system = 14, .usage = 3, .slot = 2, .frame = 13};
 static const struct pierstrand_fields long_fields = {
 	.destination = {.kind = 0, .ssi = INDIVIDUAL}, .source = {.kind = 1, .ssi = 0x654321},
-	.mni = MNI, .message = 18, .width = 22, .elements = 0x2B3C5D};
+	.mni = MNI, .message_type = 18, .width = 22, .elements = 0x2B3C5D};
 static const struct pierstrand_fields short_fields = {
 	.destination = {.kind = 0, .ssi = GROUP}, .source = {.kind = 2, .ssi = 0},
-	.mni = MNI, .message = 15, .width = 33, .elements = 0x1A2A55A5A};
+	.mni = MNI, .message_type = 15, .width = 33, .elements = 0x1A2A55A5A};
 
-static uint8_t text[PIERSTRAND_MESSAGE];      /* both messages are the start of it */
-static uint8_t blocks[PIERSTRAND_BLOCKS + 8]; /* the long one, built */
-#define CONTINUATION(i) (blocks + HEADER_BYTES + PIERSTRAND_SCH_F * (i))
+static uint8_t text[PIERSTRAND_BYTES_MESSAGE];      /* both messages are the start of it */
+static uint8_t blocks[PIERSTRAND_BYTES_BLOCKS + 8]; /* the long one, built */
+#define CONTINUATION(i) (blocks + HEADER_BYTES + PIERSTRAND_BYTES_SCH_F * (i))
 
 /*
- * ---- The four SDS-TL messages, with a number of its own for every element, and their DM-SDUs byte by byte: a transfer in a DM-SDS DATA
- * with FCS, a report in a DM-SDS ACK, an ack in a DM-SDS UDATA, a short report in a DM-SDS ACK with FCS. User data is the start of the text.
+ * ---- The four SDS-TL messages, with a number of its own for every element, and their DM-SDUs byte by byte: a transfer
+ * in a DM-SDS DATA with FCS, a report in a DM-SDS ACK, an ack in a DM-SDS UDATA, a short report in a DM-SDS ACK with
+ * FCS. User data is the start of the text.
  */
 
-#define TRANSFER_NUMBERS PIERSTRAND_SDS_TRANSFER, 1, 0xA1B2C3, 0xD4E5F6, 0x8B, 2, 1, 0, 1, 0, 0x9C, 0x15, 2, 0x123456789ABC
+#define TRANSFER_WITH(reference) \
+	PIERSTRAND_SDS_TRANSFER, 1, 0xA1B2C3, 0xD4E5F6, 0x8B, 2, 1, 0, 1, 0, reference, 0x15, 2, 0x123456789ABC
+#define TRANSFER_NUMBERS TRANSFER_WITH(0x9C)
 #define REPORT_NUMBERS PIERSTRAND_SDS_REPORT, 0, 0, 0, 0xC5, 0, 0, 1, 1, 0x67, 0x9D, 0x0A, 1, 0x2468AC
 #define ACK_NUMBERS PIERSTRAND_SDS_ACK, 0, 0, 0, 0xE1, 0, 0, 0, 0, 0x76, 0x9E, 0, 0, 0
 #define SHORT_REPORT_NUMBERS PIERSTRAND_SDS_SHORT_REPORT, 0, 0, 0, 0, 0, 0, 0, 0, 2, 0x9F, 0, 0, 0
@@ -215,14 +230,15 @@ static const struct tl {
 	uint8_t bytes[25];
 	uint64_t numbers[COUNT(message)];
 } tls[] = {
-	{{.kind = PIERSTRAND_SDS_TRANSFER, .addressed = 1, .mni = 0xA1B2C3, .ssi = 0xD4E5F6, .protocol = 0x8B, .request = 2, .short_form = 1,
-	  .storage = 1, .reference = 0x9C, .validity = 0x15, .forward = 2, .address = 0x123456789ABC},
+	{{.kind = PIERSTRAND_SDS_TRANSFER, .addressed = 1, .mni = 0xA1B2C3, .ssi = 0xD4E5F6, .protocol = 0x8B,
+	  .request = 2, .short_form = 1, .storage = 1, .reference = 0x9C, .validity = 0x15, .forward = 2,
+	  .address = 0x123456789ABC},
 	 23, 1, 13, 148, 193,
 	 {0x8D, 0x0D, 0x96, 0x1E, 0xA7, 0x2F, 0xB1, 0x85, 0xD8, 0xB0, 0xB9, 0xCA, 0xA1,
 	  0x23, 0x45, 0x67, 0x89, 0xAB, 0xC1, 0xB4, 0x38, 0xB4, 0x16, 0xEF, 0x00},
 	 {TRANSFER_NUMBERS}},
-	{{.kind = PIERSTRAND_SDS_REPORT, .protocol = 0xC5, .required = 1, .storage = 1, .status = 0x67, .reference = 0x9D, .validity = 0x0A,
-	  .forward = 1, .address = 0x2468AC},
+	{{.kind = PIERSTRAND_SDS_REPORT, .protocol = 0xC5, .required = 1, .storage = 1, .status = 0x67,
+	  .reference = 0x9D, .validity = 0x0A, .forward = 1, .address = 0x2468AC},
 	 24, 0, 5, 83, 88,
 	 {0x13, 0x08, 0xB8, 0xA3, 0x2C, 0xF3, 0xAA, 0x24, 0x8D, 0x15, 0x83},
 	 {REPORT_NUMBERS}},
@@ -236,11 +252,13 @@ static const struct tl {
 	 {SHORT_REPORT_NUMBERS}},
 };
 
-/* The fields of a header that such a DM-SDU came with: only the source, the message type and the last bit of the elements are looked at. */
+/* The fields of a header that such a DM-SDU came with: only the source, the message type and the last bit of the
+   elements are looked at. */
 static struct pierstrand_fields fields_of(uint32_t source, const struct tl *tl)
 {
-	struct pierstrand_fields f = {.destination = {.kind = 3, .ssi = ~0u}, .source = {.kind = 3, .ssi = source}, .mni = ~0u,
-				      .message = tl->type, .width = 255, .elements = ~(uint64_t)1 | tl->fcs};
+	struct pierstrand_fields f = {
+		.destination = {.kind = 3, .ssi = ~0u}, .source = {.kind = 3, .ssi = source}, .mni = ~0u,
+		.message_type = tl->type, .width = 255, .elements = ~(uint64_t)1 | tl->fcs};
 
 	return f;
 }
@@ -248,9 +266,9 @@ static struct pierstrand_fields fields_of(uint32_t source, const struct tl *tl)
 /* ---- Calls into filled bytes. */
 
 /*
- * On x86-64 a struct of more than 16 bytes is answered into bytes of the caller, whose address goes first. Called so, the library
- * writes into two areas that are filled differently, and a byte that is then the same in both was written. What it writes to is
- * aligned to 8 and not to 16.
+ * On x86-64 a struct of more than 16 bytes is answered into bytes of the caller, whose address goes first. Called so,
+ * the library writes into two areas that are filled differently, and a byte that is then the same in both was written.
+ * What it writes to is aligned to 8 and not to 16.
  */
 #define AREA 1024
 typedef union {
@@ -292,38 +310,42 @@ typedef void *continuation_call(void *, const uint8_t *, size_t);
 typedef void *transport_call(void *, struct pierstrand_fields, size_t, const uint8_t *, size_t);
 typedef void *fresh_bookings_call(void *);
 typedef void *book_call(void *, void *, struct pierstrand_fields, size_t, const uint8_t *, size_t);
+typedef void *step_call(void *, const uint8_t *, size_t, size_t, size_t);
 
-static fresh_call *fresh_into = (fresh_call *)(any_call *)pierstrand_fresh;
+static fresh_call *fresh_into = (fresh_call *)(any_call *)pierstrand_make_receiver;
 static hear_call *hear_into = (hear_call *)(any_call *)pierstrand_hear;
 static header_call *header_into = (header_call *)(any_call *)pierstrand_read_header;
 static continuation_call *continuation_into = (continuation_call *)(any_call *)pierstrand_read_continuation;
 
 static transport_call *transport_into = (transport_call *)(any_call *)pierstrand_read_transport;
-static fresh_bookings_call *fresh_bookings_into = (fresh_bookings_call *)(any_call *)pierstrand_fresh_bookings;
+static fresh_bookings_call *fresh_bookings_into = (fresh_bookings_call *)(any_call *)pierstrand_make_bookings;
 static book_call *book_into = (book_call *)(any_call *)pierstrand_book;
+static step_call *take_into = (step_call *)(any_call *)pierstrand_take_bits;
+static step_call *skip_into = (step_call *)(any_call *)pierstrand_skip_bits;
 
-/* Each of these calls into both areas, and then, if all was right so far, as C does. What was answered is in the first area. */
+/* Each of these calls into both areas, and then, if all was right so far, as C does. What was answered is in the first
+   area. */
 static const uint8_t *fresh_of(uint32_t individual, uint32_t group, uint32_t mni)
 {
 	fill(answers);
 	for (int k = 0; k < 2; k++)
 		IS(fresh_into(in(&answers[k]), individual, group, mni) == in(&answers[k]), 1);
-	same(&fresh, in(&answers[0]), in(&answers[1]));
-	ends(&fresh, answers);
+	same(&fresh_receiver, in(&answers[0]), in(&answers[1]));
+	ends(&fresh_receiver, answers);
 	if (!wrong) {
-		struct pierstrand_fresh it = pierstrand_fresh(individual, group, mni);
-		same(&fresh, &it, in(&answers[0]));
+		struct pierstrand_fresh_receiver it = pierstrand_make_receiver(individual, group, mni);
+		same(&fresh_receiver, &it, in(&answers[0]));
 	}
 	return in(&answers[0]);
 }
 
-static const uint8_t *header_of(const uint8_t *both, size_t s_length, size_t h_length)
+static const uint8_t *header_in(const uint8_t *both, size_t s_length, size_t h_length)
 {
-	static uint8_t apart[1 + PIERSTRAND_SCH_S + 2 + PIERSTRAND_SCH_H];
-	uint8_t *s = apart + 1, *h = s + PIERSTRAND_SCH_S + 2; /* lent at odd addresses, and not side by side */
+	static uint8_t apart[1 + PIERSTRAND_BYTES_SCH_S + 2 + PIERSTRAND_BYTES_SCH_H];
+	uint8_t *s = apart + 1, *h = s + PIERSTRAND_BYTES_SCH_S + 2; /* lent at odd addresses, and not side by side */
 
-	memcpy(s, both, PIERSTRAND_SCH_S);
-	memcpy(h, both + PIERSTRAND_SCH_S, PIERSTRAND_SCH_H);
+	memcpy(s, both, PIERSTRAND_BYTES_SCH_S);
+	memcpy(h, both + PIERSTRAND_BYTES_SCH_S, PIERSTRAND_BYTES_SCH_H);
 	fill(answers);
 	for (int k = 0; k < 2; k++)
 		IS(header_into(in(&answers[k]), s, s_length, h, h_length) == in(&answers[k]), 1);
@@ -335,6 +357,9 @@ static const uint8_t *header_of(const uint8_t *both, size_t s_length, size_t h_l
 	}
 	return in(&answers[0]);
 }
+
+#define READ(both) header_in(both, PIERSTRAND_BYTES_SCH_S, PIERSTRAND_BYTES_SCH_H)
+#define NO_HEADER 0, 0, 0, 0, 0, 0, 0, NO_FIELDS, 0, 0
 
 static const uint8_t *continuation_of(const uint8_t *block, size_t length)
 {
@@ -372,11 +397,30 @@ static const uint8_t *fresh_bookings_of(void)
 	same(&bookings, in(&answers[0]), in(&answers[1]));
 	ends(&bookings, answers);
 	if (!wrong) {
-		struct pierstrand_bookings it = pierstrand_fresh_bookings();
+		struct pierstrand_bookings it = pierstrand_make_bookings();
 		same(&bookings, &it, in(&answers[0]));
 	}
 	return in(&answers[0]);
 }
+
+typedef struct pierstrand_step plain_step_call(const uint8_t *, size_t, size_t, size_t);
+
+static const uint8_t *step_of(step_call *into, plain_step_call *call, size_t length, size_t at, size_t n)
+{
+	fill(answers);
+	for (int k = 0; k < 2; k++)
+		IS(into(in(&answers[k]), text, length, at, n) == in(&answers[k]), 1);
+	same(&step, in(&answers[0]), in(&answers[1]));
+	ends(&step, answers);
+	if (!wrong) {
+		struct pierstrand_step it = call(text, length, at, n);
+		same(&step, &it, in(&answers[0]));
+	}
+	return in(&answers[0]);
+}
+
+#define TAKEN(length, at, n) step_of(take_into, pierstrand_take_bits, length, at, n)
+#define SKIPPED(length, at, n) step_of(skip_into, pierstrand_skip_bits, length, at, n)
 
 /* Three indexes book the same, two of them in filled areas. */
 static area indexes[2];
@@ -387,33 +431,38 @@ static const uint8_t *booked_of(struct pierstrand_fields f, size_t n, const uint
 	fill(answers);
 	for (int k = 0; k < 2; k++)
 		IS(book_into(in(&answers[k]), in(&indexes[k]), f, n, lent, length) == in(&answers[k]), 1);
-	same(&booked, in(&answers[0]), in(&answers[1]));
-	ends(&booked, answers);
+	same(&booking, in(&answers[0]), in(&answers[1]));
+	ends(&booking, answers);
 	same(&bookings, in(&indexes[0]), in(&indexes[1]));
 	ends(&bookings, indexes);
 	if (!wrong) {
-		struct pierstrand_booked it = pierstrand_book(&plain_index, f, n, lent, length);
-		same(&booked, &it, in(&answers[0]));
+		struct pierstrand_booking it = pierstrand_book(&plain_index, f, n, lent, length);
+		same(&booking, &it, in(&answers[0]));
 		same(&bookings, &plain_index, in(&indexes[0]));
 	}
 	return in(&answers[0]);
 }
 
 /* Three receivers hear the same, two of them in filled areas. */
-static const uint8_t *answer_of(uint8_t frame, uint8_t slot, uint8_t kind, const uint8_t *lent, size_t length, size_t room)
+static const uint8_t *answer_of(uint8_t frame, uint8_t slot, uint8_t kind, const uint8_t *lent, size_t length,
+				size_t room)
 {
-	static uint8_t messages[3][PIERSTRAND_MESSAGE + 8];
+	static uint8_t messages[3][PIERSTRAND_BYTES_MESSAGE + 8];
 
 	fill(answers);
 	memset(messages, 0x5A, sizeof messages);
-	for (int k = 0; k < 2; k++)
-		IS(hear_into(in(&answers[k]), in(&receivers[k]), frame, slot, kind, lent, length, messages[k], room) == in(&answers[k]), 1);
+	for (int k = 0; k < 2; k++) {
+		uint8_t *to = in(&answers[k]);
+
+		IS(hear_into(to, in(&receivers[k]), frame, slot, kind, lent, length, messages[k], room) == to, 1);
+	}
 	same(&answer, in(&answers[0]), in(&answers[1]));
 	ends(&answer, answers);
 	same(&receiver, in(&receivers[0]), in(&receivers[1]));
 	ends(&receiver, receivers);
 	if (!wrong) {
-		struct pierstrand_answer it = pierstrand_hear(&plain.receiver, frame, slot, kind, lent, length, messages[2], room);
+		struct pierstrand_answer it =
+			pierstrand_hear(&plain.receiver, frame, slot, kind, lent, length, messages[2], room);
 		size_t whole = it.bits / 8, used = (it.bits + 7) / 8;
 
 		same(&answer, &it, in(&answers[0]));
@@ -431,9 +480,12 @@ static const uint8_t *answer_of(uint8_t frame, uint8_t slot, uint8_t kind, const
 	return in(&answers[0]);
 }
 
-#define HEARD(frame, slot, header) answer_of(frame, slot, PIERSTRAND_HEADER, header, HEADER_BYTES, PIERSTRAND_MESSAGE)
-#define BLOCK(frame, block) answer_of(frame, 1, PIERSTRAND_BLOCK, block, PIERSTRAND_SCH_F, PIERSTRAND_MESSAGE)
-#define SILENCE(frame, slot) answer_of(frame, slot, PIERSTRAND_SILENCE, text, 0, PIERSTRAND_MESSAGE)
+#define HEARD(frame, slot, header) \
+	answer_of(frame, slot, PIERSTRAND_KIND_HEADER, header, HEADER_BYTES, PIERSTRAND_BYTES_MESSAGE)
+#define BLOCK(frame, block) \
+	answer_of(frame, 1, PIERSTRAND_KIND_BLOCK, block, PIERSTRAND_BYTES_SCH_F, PIERSTRAND_BYTES_MESSAGE)
+#define SILENT(frame, slot, length, room) answer_of(frame, slot, PIERSTRAND_KIND_SILENCE, text, length, room)
+#define SILENCE(frame, slot) SILENT(frame, slot, 0, PIERSTRAND_BYTES_MESSAGE)
 
 /* ---- The parts of a receiver. */
 
@@ -443,7 +495,7 @@ static uint64_t half(const uint8_t *both, size_t from)
 	uint64_t it = 0;
 
 	for (size_t i = 0; i < 8; i++)
-		it = it << 8 | both[PIERSTRAND_SCH_S + from + i];
+		it = it << 8 | both[PIERSTRAND_BYTES_SCH_S + from + i];
 	return it;
 }
 
@@ -480,7 +532,7 @@ static void store_has(size_t bits)
 {
 	const uint8_t *store = in(&receivers[0]) + offsetof(struct pierstrand_receiver, assembly.store);
 
-	for (size_t i = 0; i < PIERSTRAND_MESSAGE; i++) {
+	for (size_t i = 0; i < PIERSTRAND_BYTES_MESSAGE; i++) {
 		size_t left = bits < 8 * i ? 0 : bits - 8 * i;
 
 		IS(store[i], left >= 8 ? text[i] : text[i] & (uint8_t)(0xFF00 >> left));
@@ -492,9 +544,10 @@ static void index_has(size_t count, uint32_t newest)
 {
 	HOLDS(bookings, in(&indexes[0]), count, 0);
 	for (size_t i = 0; i < PIERSTRAND_PAIRS; i++) {
+		const uint8_t *pairs = in(&indexes[0]) + offsetof(struct pierstrand_bookings, pairs);
 		uint32_t pair;
 
-		memcpy(&pair, in(&indexes[0]) + offsetof(struct pierstrand_bookings, pairs) + i * sizeof pair, sizeof pair);
+		memcpy(&pair, pairs + i * sizeof pair, sizeof pair);
 		IS(pair, i < count ? 256 + newest - i : 0);
 	}
 }
@@ -503,36 +556,37 @@ static void index_has(size_t count, uint32_t newest)
 
 static void builds(void)
 {
-	struct pierstrand_built b;
-	struct pierstrand_due d;
+	struct pierstrand_block_count b;
+	struct pierstrand_due_frame d;
 
 	for (size_t i = 0; i < sizeof text; i++)
 		text[i] = (uint8_t)(0x1B + 37 * i);
 	memset(blocks, 0x5A, sizeof blocks);
-	b = pierstrand_build(short_sync, 2, short_fields, SHORT_BITS, text, sizeof text, blocks, sizeof blocks);
-	HOLDS(built, &b, 0, 0);
+	b = pierstrand_build_blocks(short_sync, 2, short_fields, SHORT_BITS, text, sizeof text, blocks, sizeof blocks);
+	HOLDS(block_count, &b, 0, 0);
 	IS(memcmp(blocks, short_header, sizeof short_header), 0);
 	IS(blocks[HEADER_BYTES], 0x5A);
-	b = pierstrand_build(long_sync, 3, long_fields, LONG_BITS, text, LONG_BITS / 8, blocks, sizeof blocks);
-	HOLDS(built, &b, PIERSTRAND_RANGE, 0);
+	b = pierstrand_build_blocks(long_sync, 3, long_fields, LONG_BITS, text, LONG_BITS / 8, blocks, sizeof blocks);
+	HOLDS(block_count, &b, PIERSTRAND_FAULT_RANGE, 0);
 	IS(memcmp(blocks, short_header, sizeof short_header), 0);
-	b = pierstrand_build(long_sync, 3, long_fields, LONG_BITS, text, LONG_BITS / 8 + 1, blocks, sizeof blocks);
-	HOLDS(built, &b, 0, 9);
+	b = pierstrand_build_blocks(long_sync, 3, long_fields, LONG_BITS, text, LONG_BITS / 8 + 1,
+				    blocks, sizeof blocks);
+	HOLDS(block_count, &b, 0, 9);
 	IS(memcmp(blocks, long_header, sizeof long_header), 0);
 	IS(*CONTINUATION(9), 0x5A);
 
-	d = pierstrand_due_frame(13, 3, 8);
-	HOLDS(due, &d, 0, 8);
-	d = pierstrand_due_frame(19, 3, 8);
-	HOLDS(due, &d, PIERSTRAND_FRAME, 0);
+	d = pierstrand_find_due_frame(13, 3, 8);
+	HOLDS(due_frame, &d, 0, 8);
+	d = pierstrand_find_due_frame(19, 3, 8);
+	HOLDS(due_frame, &d, PIERSTRAND_FAULT_FRAME, 0);
 }
 
 static void reads(void)
 {
-	HOLDS(header, header_of(long_header, PIERSTRAND_SCH_S, PIERSTRAND_SCH_H), 0, 11, 1, 0, 13, 1, 9, 3, LONG_FIELDS, 121, 3);
-	HOLDS(header, header_of(short_header, PIERSTRAND_SCH_S, PIERSTRAND_SCH_H), 0, 14, 3, 2, 13, 0, 0, 2, SHORT_FIELDS, 104, SHORT_BITS);
-	HOLDS(continuation, continuation_of(CONTINUATION(0), PIERSTRAND_SCH_F), 0, 0, 4, 264);
-	HOLDS(continuation, continuation_of(CONTINUATION(8), PIERSTRAND_SCH_F), 0, 1, 4, 100);
+	HOLDS(header, READ(long_header), 0, 11, 1, 0, 13, 1, 9, 3, LONG_FIELDS, 121, 3);
+	HOLDS(header, READ(short_header), 0, 14, 3, 2, 13, 0, 0, 2, SHORT_FIELDS, 104, SHORT_BITS);
+	HOLDS(continuation, continuation_of(CONTINUATION(0), PIERSTRAND_BYTES_SCH_F), 0, 0, 4, 264);
+	HOLDS(continuation, continuation_of(CONTINUATION(8), PIERSTRAND_BYTES_SCH_F), 0, 1, 4, 100);
 }
 
 #define SETTINGS INDIVIDUAL, GROUP, MNI
@@ -553,7 +607,7 @@ static void put_header(uint8_t *both, uint8_t frame, uint8_t slot, uint8_t count
 	s.frame = frame;
 	s.slot = slot - 1;
 	f.destination.ssi = to;
-	IS(pierstrand_build(s, countdown, f, bits, text, sizeof text, both, HEADER_BYTES).fault, 0);
+	IS(pierstrand_build_blocks(s, countdown, f, bits, text, sizeof text, both, HEADER_BYTES).fault, 0);
 }
 
 /* Two messages by turns: each one's copy comes after a header of the other. */
@@ -563,21 +617,21 @@ static void hears_two(void)
 
 	put_header(one, 13, 1, 1, GROUP, SHORT_BITS);
 	put_header(other, 13, 3, 3, INDIVIDUAL, SHORT_BITS - 1);
-	HOLDS(answer, HEARD(13, 1, one), PIERSTRAND_UNFRAGMENTED, 0, 0, SHORT_BITS, SHORT_FIELDS);
+	HOLDS(answer, HEARD(13, 1, one), PIERSTRAND_OUTCOME_UNFRAGMENTED, 0, 0, SHORT_BITS, SHORT_FIELDS);
 	RECEIVER_HOLDS(13, 1, NEAR(1, SHORT_RAW, 1), NO_ASSEMBLY);
-	HOLDS(answer, HEARD(13, 3, other), PIERSTRAND_UNFRAGMENTED, 0, 0, SHORT_BITS - 1, SHORT_TO(INDIVIDUAL));
+	HOLDS(answer, HEARD(13, 3, other), PIERSTRAND_OUTCOME_UNFRAGMENTED, 0, 0, SHORT_BITS - 1, SHORT_TO(INDIVIDUAL));
 	RECEIVER_HOLDS(13, 3, NEAR(2, SHORT_RAW, 0, UNFRAGMENTED_RAW(other), 2), NO_ASSEMBLY);
 	put_header(one, 14, 1, 0, GROUP, SHORT_BITS);
 	put_header(other, 14, 3, 2, INDIVIDUAL, SHORT_BITS - 1);
-	HOLDS(answer, HEARD(14, 1, one), PIERSTRAND_COPY, 0, 0, 0, NO_FIELDS);
+	HOLDS(answer, HEARD(14, 1, one), PIERSTRAND_OUTCOME_COPY, 0, 0, 0, NO_FIELDS);
 	RECEIVER_HOLDS(14, 1, NEAR(2, SHORT_RAW, 0, UNFRAGMENTED_RAW(other), 2), NO_ASSEMBLY);
-	HOLDS(answer, HEARD(14, 3, other), PIERSTRAND_COPY, 0, 0, 0, NO_FIELDS);
+	HOLDS(answer, HEARD(14, 3, other), PIERSTRAND_OUTCOME_COPY, 0, 0, 0, NO_FIELDS);
 	RECEIVER_HOLDS(14, 3, NEAR(1, UNFRAGMENTED_RAW(other), 1), NO_ASSEMBLY);
 
 	/* The first one can have no copy any more: it is a message again, and has none in a new frame. */
 	put_header(one, 15, 3, 0, GROUP, SHORT_BITS);
-	HOLDS(answer, SILENCE(15, 1), PIERSTRAND_NOTHING, 0, 0, 0, NO_FIELDS);
-	HOLDS(answer, HEARD(15, 3, one), PIERSTRAND_UNFRAGMENTED, 0, 0, SHORT_BITS, SHORT_FIELDS);
+	HOLDS(answer, SILENCE(15, 1), PIERSTRAND_OUTCOME_NOTHING, 0, 0, 0, NO_FIELDS);
+	HOLDS(answer, HEARD(15, 3, one), PIERSTRAND_OUTCOME_UNFRAGMENTED, 0, 0, SHORT_BITS, SHORT_FIELDS);
 	RECEIVER_HOLDS(15, 3, NEAR(1, UNFRAGMENTED_RAW(other), 0), NO_ASSEMBLY);
 }
 
@@ -595,15 +649,16 @@ static void hears_seven(void)
 		memcpy(places + 3 * i, (const uint64_t[]){UNFRAGMENTED_RAW(both), 3}, 3 * sizeof places[0]);
 		for (size_t k = 0; k <= i && slot == 3; k++)
 			places[3 * k + 2]--;
-		HOLDS(answer, HEARD(frame, slot, both), PIERSTRAND_UNFRAGMENTED, 0, 0, SHORT_BITS - i, SHORT_TO(to));
+		HOLDS(answer, HEARD(frame, slot, both), PIERSTRAND_OUTCOME_UNFRAGMENTED, 0, 0, SHORT_BITS - i,
+		      SHORT_TO(to));
 		RECEIVER_HOLDS(frame, slot, i + 1, places, NO_ASSEMBLY);
 	}
 	put_header(both, 16, 3, 0, GROUP, SHORT_BITS);
-	HOLDS(answer, HEARD(16, 3, both), PIERSTRAND_COPY, 0, 0, 0, NO_FIELDS);
+	HOLDS(answer, HEARD(16, 3, both), PIERSTRAND_OUTCOME_COPY, 0, 0, 0, NO_FIELDS);
 	for (size_t k = 2; k < NEARS; k++)
 		places[3 * k + 2]--;
 	RECEIVER_HOLDS(16, 3, NEARS - 2, places + 2 * 3, NO_ASSEMBLY);
-	HOLDS(answer, SILENCE(13, 1), PIERSTRAND_NOTHING, 0, 0, 0, NO_FIELDS);
+	HOLDS(answer, SILENCE(13, 1), PIERSTRAND_OUTCOME_NOTHING, 0, 0, 0, NO_FIELDS);
 	RECEIVER_HOLDS(13, 1, NO_NEAR, NO_ASSEMBLY);
 }
 
@@ -616,8 +671,8 @@ static void hears_seven(void)
 #define ACK_SOURCE 0xFEDCBA
 #define NO_LOSS 0, 0, 0
 
-static uint8_t sds[PIERSTRAND_BLOCKS];
-#define SDS_CONTINUATION(i) (sds + HEADER_BYTES + PIERSTRAND_SCH_F * (i))
+static uint8_t sds[PIERSTRAND_BYTES_BLOCKS];
+#define SDS_CONTINUATION(i) (sds + HEADER_BYTES + PIERSTRAND_BYTES_SCH_F * (i))
 
 /* The blocks of one from this source; 0 is absent. */
 static const uint8_t *put_sds(uint8_t frame, uint8_t slot, uint8_t type, uint32_t source)
@@ -625,13 +680,13 @@ static const uint8_t *put_sds(uint8_t frame, uint8_t slot, uint8_t type, uint32_
 	struct pierstrand_sync s = long_sync;
 	struct pierstrand_fields f = {
 		.destination = {.kind = 0, .ssi = GROUP}, .source = {.kind = source != 0 ? 1 : 2, .ssi = source},
-		.mni = MNI, .message = type, .width = type == 24 ? 1 : 8, .elements = 1};
-	struct pierstrand_built b;
+		.mni = MNI, .message_type = type, .width = type == 24 ? 1 : 8, .elements = 1};
+	struct pierstrand_block_count b;
 
 	s.frame = frame;
 	s.slot = slot - 1;
-	b = pierstrand_build(s, 0, f, LOST_BITS, text, sizeof text, sds, sizeof sds);
-	HOLDS(built, &b, 0, 3);
+	b = pierstrand_build_blocks(s, 0, f, LOST_BITS, text, sizeof text, sds, sizeof sds);
+	HOLDS(block_count, &b, 0, 3);
 	return sds;
 }
 
@@ -643,36 +698,37 @@ static void hears_lost(void)
 	uint8_t both[HEADER_BYTES];
 
 	/* A DM-SDS DATA. A repeat of its header loses nothing, nor does what is refused. The second block is missed. */
-	LOSES_NOTHING(HEARD(3, 1, put_sds(3, 1, 23, DATA_SOURCE)), PIERSTRAND_OPENED, 0);
-	LOSES_NOTHING(HEARD(3, 3, put_sds(3, 3, 23, DATA_SOURCE)), PIERSTRAND_OPENED, 0);
-	LOSES_NOTHING(BLOCK(4, SDS_CONTINUATION(0)), PIERSTRAND_KEPT, 0);
-	LOSES_NOTHING(SILENCE(4, 3), PIERSTRAND_NOTHING, 0);
-	LOSES_NOTHING(SILENCE(19, 1), 0, PIERSTRAND_REPORT_FRAME);
-	LOSES_NOTHING(SILENCE(5, 2), 0, PIERSTRAND_REPORT_SLOT);
-	LOSES_NOTHING(answer_of(5, 1, PIERSTRAND_SILENCE, text, 1, PIERSTRAND_MESSAGE), 0, PIERSTRAND_LENGTH);
-	LOSES_NOTHING(answer_of(5, 1, PIERSTRAND_SILENCE, text, 0, PIERSTRAND_MESSAGE - 1), 0, PIERSTRAND_BUFFER);
+	LOSES_NOTHING(HEARD(3, 1, put_sds(3, 1, 23, DATA_SOURCE)), PIERSTRAND_OUTCOME_OPENED, 0);
+	LOSES_NOTHING(HEARD(3, 3, put_sds(3, 3, 23, DATA_SOURCE)), PIERSTRAND_OUTCOME_OPENED, 0);
+	LOSES_NOTHING(BLOCK(4, SDS_CONTINUATION(0)), PIERSTRAND_OUTCOME_KEPT, 0);
+	LOSES_NOTHING(SILENCE(4, 3), PIERSTRAND_OUTCOME_NOTHING, 0);
+	LOSES_NOTHING(SILENCE(19, 1), 0, PIERSTRAND_FAULT_REPORT_FRAME);
+	LOSES_NOTHING(SILENCE(5, 2), 0, PIERSTRAND_FAULT_REPORT_SLOT);
+	LOSES_NOTHING(SILENT(5, 1, 1, PIERSTRAND_BYTES_MESSAGE), 0, PIERSTRAND_FAULT_LENGTH);
+	LOSES_NOTHING(SILENT(5, 1, 0, PIERSTRAND_BYTES_MESSAGE - 1), 0, PIERSTRAND_FAULT_BUFFER);
 	store_has(17 + 264);
-	LOSES(SILENCE(5, 1), PIERSTRAND_NOTHING, DATA_SOURCE, 23, 17 + 264);
+	LOSES(SILENCE(5, 1), PIERSTRAND_OUTCOME_NOTHING, DATA_SOURCE, 23, 17 + 264);
 	store_has(0);
-	LOSES_NOTHING(SILENCE(5, 3), PIERSTRAND_NOTHING, 0);
+	LOSES_NOTHING(SILENCE(5, 3), PIERSTRAND_OUTCOME_NOTHING, 0);
 
 	/* A DM-SDS ACK, and a break before its first block. */
-	LOSES_NOTHING(HEARD(6, 1, put_sds(6, 1, 24, ACK_SOURCE)), PIERSTRAND_OPENED, 0);
-	LOSES(SILENCE(11, 3), PIERSTRAND_NOTHING, ACK_SOURCE, 24, 24);
+	LOSES_NOTHING(HEARD(6, 1, put_sds(6, 1, 24, ACK_SOURCE)), PIERSTRAND_OUTCOME_OPENED, 0);
+	LOSES(SILENCE(11, 3), PIERSTRAND_OUTCOME_NOTHING, ACK_SOURCE, 24, 24);
 
 	/* One without a source, and the short message where its second block is due: both are told of. */
-	LOSES_NOTHING(HEARD(11, 1, put_sds(11, 1, 24, 0)), PIERSTRAND_OPENED, 0);
-	LOSES_NOTHING(SILENCE(11, 3), PIERSTRAND_NOTHING, 0);
-	LOSES_NOTHING(BLOCK(12, SDS_CONTINUATION(0)), PIERSTRAND_KEPT, 0);
-	LOSES_NOTHING(SILENCE(12, 3), PIERSTRAND_NOTHING, 0);
+	LOSES_NOTHING(HEARD(11, 1, put_sds(11, 1, 24, 0)), PIERSTRAND_OUTCOME_OPENED, 0);
+	LOSES_NOTHING(SILENCE(11, 3), PIERSTRAND_OUTCOME_NOTHING, 0);
+	LOSES_NOTHING(BLOCK(12, SDS_CONTINUATION(0)), PIERSTRAND_OUTCOME_KEPT, 0);
+	LOSES_NOTHING(SILENCE(12, 3), PIERSTRAND_OUTCOME_NOTHING, 0);
 	put_header(both, 13, 1, 2, GROUP, SHORT_BITS);
-	HOLDS(answer, HEARD(13, 1, both), PIERSTRAND_UNFRAGMENTED, 1, 0, SHORT_BITS, SHORT_FIELDS, 0, 24, 48 + 264);
+	HOLDS(answer, HEARD(13, 1, both), PIERSTRAND_OUTCOME_UNFRAGMENTED, 1, 0, SHORT_BITS, SHORT_FIELDS,
+	      0, 24, 48 + 264);
 
 	/* A DM-SDS DATA that ends at the header of a DM-SDS UDATA. Of that one nothing is told when it is lost. */
-	LOSES_NOTHING(HEARD(13, 3, put_sds(13, 3, 23, DATA_SOURCE)), PIERSTRAND_OPENED, 0);
-	LOSES(HEARD(14, 1, put_sds(14, 1, 22, ACK_SOURCE)), PIERSTRAND_OPENED, DATA_SOURCE, 23, 17);
-	LOSES_NOTHING(SILENCE(14, 3), PIERSTRAND_NOTHING, 0);
-	LOSES(SILENCE(15, 1), PIERSTRAND_NOTHING, NO_LOSS);
+	LOSES_NOTHING(HEARD(13, 3, put_sds(13, 3, 23, DATA_SOURCE)), PIERSTRAND_OUTCOME_OPENED, 0);
+	LOSES(HEARD(14, 1, put_sds(14, 1, 22, ACK_SOURCE)), PIERSTRAND_OUTCOME_OPENED, DATA_SOURCE, 23, 17);
+	LOSES_NOTHING(SILENCE(14, 3), PIERSTRAND_OUTCOME_NOTHING, 0);
+	LOSES(SILENCE(15, 1), PIERSTRAND_OUTCOME_NOTHING, NO_LOSS);
 	RECEIVER_HOLDS(15, 1, NEAR(1, SHORT_RAW, 0), NO_ASSEMBLY);
 }
 
@@ -681,41 +737,42 @@ static void hears(void)
 	uint8_t in_slot_1[sizeof short_header];
 	const uint8_t *it;
 
-	HOLDS(fresh, fresh_of(1 << 24, 1, 2), PIERSTRAND_RANGE, 0, 0, 0, 0, 0, 0, 0, NO_ASSEMBLY);
+	HOLDS(fresh_receiver, fresh_of(1 << 24, 1, 2), PIERSTRAND_FAULT_RANGE, 0, 0, 0, 0, 0, 0, 0, NO_ASSEMBLY);
 	it = fresh_of(SETTINGS);
-	HOLDS(fresh, it, 0, SETTINGS, 0, 0, 0, 0, NO_ASSEMBLY);
+	HOLDS(fresh_receiver, it, 0, SETTINGS, 0, 0, 0, 0, NO_ASSEMBLY);
 	fill(receivers);
 	for (int k = 0; k < 2; k++)
-		memcpy(in(&receivers[k]), it + offsetof(struct pierstrand_fresh, receiver), sizeof (struct pierstrand_receiver));
+		memcpy(in(&receivers[k]), it + offsetof(struct pierstrand_fresh_receiver, receiver),
+		       sizeof (struct pierstrand_receiver));
 	RECEIVER_HOLDS(0, 0, NO_NEAR, NO_ASSEMBLY);
 	store_has(0);
 	if (wrong)
 		return;
-	plain.receiver = pierstrand_fresh(SETTINGS).receiver;
+	plain.receiver = pierstrand_make_receiver(SETTINGS).receiver;
 
 	/* The short message: its header is kept, and no assembly. Then a break. */
-	HOLDS(answer, HEARD(13, 3, short_header), PIERSTRAND_UNFRAGMENTED, 0, 0, SHORT_BITS, SHORT_FIELDS);
+	HOLDS(answer, HEARD(13, 3, short_header), PIERSTRAND_OUTCOME_UNFRAGMENTED, 0, 0, SHORT_BITS, SHORT_FIELDS);
 	RECEIVER_HOLDS(13, 3, NEAR(1, SHORT_RAW, 1), NO_ASSEMBLY);
-	HOLDS(answer, SILENCE(12, 3), PIERSTRAND_NOTHING, 0, 0, 0, NO_FIELDS);
+	HOLDS(answer, SILENCE(12, 3), PIERSTRAND_OUTCOME_NOTHING, 0, 0, 0, NO_FIELDS);
 	RECEIVER_HOLDS(12, 3, NO_NEAR, NO_ASSEMBLY);
 
 	/* The long one begins, and the short one comes between. */
-	HOLDS(answer, HEARD(13, 1, long_header), PIERSTRAND_OPENED, 0, 0, 0, NO_FIELDS);
+	HOLDS(answer, HEARD(13, 1, long_header), PIERSTRAND_OUTCOME_OPENED, 0, 0, 0, NO_FIELDS);
 	RECEIVER_HOLDS(13, 1, NO_NEAR, LONG_OPEN(4, 0, 3));
-	HOLDS(answer, HEARD(13, 3, short_header), PIERSTRAND_UNFRAGMENTED, 0, 0, SHORT_BITS, SHORT_FIELDS);
+	HOLDS(answer, HEARD(13, 3, short_header), PIERSTRAND_OUTCOME_UNFRAGMENTED, 0, 0, SHORT_BITS, SHORT_FIELDS);
 	RECEIVER_HOLDS(13, 3, NEAR(1, SHORT_RAW, 1), LONG_OPEN(4, 0, 3));
 	store_has(3);
 
 	/* Refused: the receiver is as before. */
-	HOLDS(answer, answer_of(19, 1, PIERSTRAND_SILENCE, text, 0, PIERSTRAND_MESSAGE), 0, 0, PIERSTRAND_REPORT_FRAME, 0, NO_FIELDS);
-	HOLDS(answer, answer_of(14, 2, PIERSTRAND_SILENCE, text, 0, PIERSTRAND_MESSAGE), 0, 0, PIERSTRAND_REPORT_SLOT, 0, NO_FIELDS);
-	HOLDS(answer, answer_of(14, 1, PIERSTRAND_SILENCE, text, 1, PIERSTRAND_MESSAGE), 0, 0, PIERSTRAND_LENGTH, 0, NO_FIELDS);
-	HOLDS(answer, answer_of(14, 1, PIERSTRAND_SILENCE, text, 0, PIERSTRAND_MESSAGE - 1), 0, 0, PIERSTRAND_BUFFER, 0, NO_FIELDS);
+	HOLDS(answer, SILENCE(19, 1), 0, 0, PIERSTRAND_FAULT_REPORT_FRAME, 0, NO_FIELDS);
+	HOLDS(answer, SILENCE(14, 2), 0, 0, PIERSTRAND_FAULT_REPORT_SLOT, 0, NO_FIELDS);
+	HOLDS(answer, SILENT(14, 1, 1, PIERSTRAND_BYTES_MESSAGE), 0, 0, PIERSTRAND_FAULT_LENGTH, 0, NO_FIELDS);
+	HOLDS(answer, SILENT(14, 1, 0, PIERSTRAND_BYTES_MESSAGE - 1), 0, 0, PIERSTRAND_FAULT_BUFFER, 0, NO_FIELDS);
 	RECEIVER_HOLDS(13, 3, NEAR(1, SHORT_RAW, 1), LONG_OPEN(4, 0, 3));
 	store_has(3);
 
 	/* A header that names another frame; then nothing, up to the first due slot. */
-	HOLDS(answer, HEARD(14, 1, long_header), PIERSTRAND_NOTHING, 0, PIERSTRAND_PLACE, 0, NO_FIELDS);
+	HOLDS(answer, HEARD(14, 1, long_header), PIERSTRAND_OUTCOME_NOTHING, 0, PIERSTRAND_FAULT_PLACE, 0, NO_FIELDS);
 	RECEIVER_HOLDS(14, 1, NEAR(1, SHORT_RAW, 1), LONG_OPEN(3, 0, 3));
 	SILENCE(14, 3);
 	RECEIVER_HOLDS(14, 3, NEAR(1, SHORT_RAW, 0), LONG_OPEN(3, 0, 3));
@@ -724,18 +781,18 @@ static void hears(void)
 	SILENCE(15, 3);
 	RECEIVER_HOLDS(15, 3, NO_NEAR, LONG_OPEN(2, 0, 3));
 	SILENCE(16, 1);
-	HOLDS(answer, SILENCE(16, 3), PIERSTRAND_NOTHING, 0, 0, 0, NO_FIELDS);
+	HOLDS(answer, SILENCE(16, 3), PIERSTRAND_OUTCOME_NOTHING, 0, 0, 0, NO_FIELDS);
 	RECEIVER_HOLDS(16, 3, NO_NEAR, LONG_OPEN(1, 0, 3));
 
 	/* Its blocks: frame 17, then 1 to 8. */
 	for (uint8_t i = 0; i < 9; i++) {
-		uint8_t frame = pierstrand_due_frame(13, 3, i).frame;
+		uint8_t frame = pierstrand_find_due_frame(13, 3, i).frame;
 
 		IS(frame, i == 0 ? 17 : i);
 		it = BLOCK(frame, CONTINUATION(i));
 		if (i == 8)
 			break;
-		HOLDS(answer, it, PIERSTRAND_KEPT, 0, 0, 0, NO_FIELDS);
+		HOLDS(answer, it, PIERSTRAND_OUTCOME_KEPT, 0, 0, 0, NO_FIELDS);
 		RECEIVER_HOLDS(frame, 1, NO_NEAR, LONG_OPEN(0, i + 1, 3 + 264 * (i + 1)));
 		store_has(3 + 264 * ((size_t)i + 1));
 		SILENCE(frame, 3);
@@ -744,20 +801,20 @@ static void hears(void)
 			SILENCE(18, 3);
 		}
 	}
-	HOLDS(answer, it, PIERSTRAND_JOINED, 0, 0, LONG_BITS, LONG_FIELDS);
+	HOLDS(answer, it, PIERSTRAND_OUTCOME_JOINED, 0, 0, LONG_BITS, LONG_FIELDS);
 	RECEIVER_HOLDS(8, 1, NO_NEAR, NO_ASSEMBLY);
 	store_has(0);
 
 	/* After a break the short one in slot 1, and its copy in slot 3; then an assembly that a break drops. */
 	memcpy(in_slot_1, short_header, sizeof in_slot_1);
 	in_slot_1[1] ^= 8;
-	HOLDS(answer, HEARD(13, 1, in_slot_1), PIERSTRAND_UNFRAGMENTED, 0, 0, SHORT_BITS, SHORT_FIELDS);
+	HOLDS(answer, HEARD(13, 1, in_slot_1), PIERSTRAND_OUTCOME_UNFRAGMENTED, 0, 0, SHORT_BITS, SHORT_FIELDS);
 	RECEIVER_HOLDS(13, 1, NEAR(1, SHORT_RAW, 2), NO_ASSEMBLY);
-	HOLDS(answer, HEARD(13, 3, short_header), PIERSTRAND_COPY, 0, 0, 0, NO_FIELDS);
+	HOLDS(answer, HEARD(13, 3, short_header), PIERSTRAND_OUTCOME_COPY, 0, 0, 0, NO_FIELDS);
 	RECEIVER_HOLDS(13, 3, NEAR(1, SHORT_RAW, 1), NO_ASSEMBLY);
-	HOLDS(answer, HEARD(13, 1, long_header), PIERSTRAND_OPENED, 0, 0, 0, NO_FIELDS);
+	HOLDS(answer, HEARD(13, 1, long_header), PIERSTRAND_OUTCOME_OPENED, 0, 0, 0, NO_FIELDS);
 	RECEIVER_HOLDS(13, 1, NO_NEAR, LONG_OPEN(4, 0, 3));
-	HOLDS(answer, SILENCE(14, 1), PIERSTRAND_NOTHING, 1, 0, 0, NO_FIELDS, NO_LOSS);
+	HOLDS(answer, SILENCE(14, 1), PIERSTRAND_OUTCOME_NOTHING, 1, 0, 0, NO_FIELDS, NO_LOSS);
 	RECEIVER_HOLDS(14, 1, NO_NEAR, NO_ASSEMBLY);
 	hears_two();
 	hears_seven();
@@ -766,7 +823,7 @@ static void hears(void)
 
 static void transports(void)
 {
-	static uint8_t out[PIERSTRAND_SDU + 8];
+	static uint8_t out[PIERSTRAND_BYTES_SDU + 8];
 	struct pierstrand_message longest = tls[0].message;
 	struct pierstrand_sdu s;
 
@@ -778,11 +835,12 @@ static void transports(void)
 
 		memset(out, 0x5A, sizeof out);
 		s = pierstrand_build_transport(tl->type, tl->fcs, tl->message, tl->user, text, user, out, length - 1);
-		HOLDS(sdu, &s, PIERSTRAND_LENGTH, 0);
-		s = pierstrand_build_transport(tl->type, tl->fcs, tl->message, 8 * user + 1, text, user, out, sizeof out);
-		HOLDS(sdu, &s, PIERSTRAND_RANGE, 0);
+		HOLDS(sdu, &s, PIERSTRAND_FAULT_LENGTH, 0);
+		s = pierstrand_build_transport(tl->type, tl->fcs, tl->message, 8 * user + 1, text, user,
+					       out, sizeof out);
+		HOLDS(sdu, &s, PIERSTRAND_FAULT_RANGE, 0);
 		s = pierstrand_build_transport(21, tl->fcs, tl->message, tl->user, text, user, out, sizeof out);
-		HOLDS(sdu, &s, PIERSTRAND_NOT_SDS_TL, 0);
+		HOLDS(sdu, &s, PIERSTRAND_FAULT_NOT_SDS_TL, 0);
 		IS(out[0], 0x5A);
 		s = pierstrand_build_transport(tl->type, tl->fcs, tl->message, tl->user, text, user, out, length);
 		HOLDS(sdu, &s, 0, tl->bits);
@@ -794,9 +852,11 @@ static void transports(void)
 		read[COUNT(transport) - 2] = tl->first;
 		read[COUNT(transport) - 1] = tl->user;
 		holds(&transport, transport_of(f, tl->bits, tl->bytes, length), read);
-		HOLDS(transport, transport_of(f, 8 * length + 1, tl->bytes, length), PIERSTRAND_RANGE, NO_MESSAGE, 0, 0);
-		HOLDS(transport, transport_of(f, 8, tl->bytes, length), PIERSTRAND_NOT_SDS_TL, NO_MESSAGE, 0, 0);
-		HOLDS(transport, transport_of(f, tl->bits - 1, tl->bytes, length), PIERSTRAND_TOO_SHORT, NO_MESSAGE, 0, 0);
+		HOLDS(transport, transport_of(f, 8 * length + 1, tl->bytes, length),
+		      PIERSTRAND_FAULT_RANGE, NO_MESSAGE);
+		HOLDS(transport, transport_of(f, 8, tl->bytes, length), PIERSTRAND_FAULT_NOT_SDS_TL, NO_MESSAGE);
+		HOLDS(transport, transport_of(f, tl->bits - 1, tl->bytes, length),
+		      PIERSTRAND_FAULT_TOO_SHORT, NO_MESSAGE);
 	}
 
 	/* The longest DM-SDU: user defined data 4 of 2,047 bits, and one more. */
@@ -804,13 +864,13 @@ static void transports(void)
 	longest.address = 0;
 	memset(out, 0x5A, sizeof out);
 	s = pierstrand_build_transport(23, 1, longest, 2047 - 24 + 1, text, sizeof text, out, sizeof out);
-	HOLDS(sdu, &s, PIERSTRAND_RANGE, 0);
-	s = pierstrand_build_transport(23, 1, longest, 2047 - 24, text, sizeof text, out, PIERSTRAND_SDU - 1);
-	HOLDS(sdu, &s, PIERSTRAND_LENGTH, 0);
+	HOLDS(sdu, &s, PIERSTRAND_FAULT_RANGE, 0);
+	s = pierstrand_build_transport(23, 1, longest, 2047 - 24, text, sizeof text, out, PIERSTRAND_BYTES_SDU - 1);
+	HOLDS(sdu, &s, PIERSTRAND_FAULT_LENGTH, 0);
 	IS(out[0], 0x5A);
-	s = pierstrand_build_transport(23, 1, longest, 2047 - 24, text, sizeof text, out, PIERSTRAND_SDU);
+	s = pierstrand_build_transport(23, 1, longest, 2047 - 24, text, sizeof text, out, PIERSTRAND_BYTES_SDU);
 	HOLDS(sdu, &s, 0, 2147);
-	IS(out[PIERSTRAND_SDU], 0x5A);
+	IS(out[PIERSTRAND_BYTES_SDU], 0x5A);
 }
 
 /* Transfers from source 1, of which only the reference changes: it stands in bits 84 to 91. */
@@ -826,29 +886,61 @@ static void books(void)
 	index_has(0, 0);
 	if (wrong)
 		return;
-	plain_index = pierstrand_fresh_bookings();
+	plain_index = pierstrand_make_bookings();
 
 	tl.fcs = 0;
 	for (uint32_t i = 1; i <= PIERSTRAND_PAIRS + 2; i++) {
 		tl.bytes[10] = (uint8_t)(0xB0 | i >> 4);
 		tl.bytes[11] = (uint8_t)(i << 4 | 0x0A);
 		it = booked_of(fields_of(1, &tl), tl.bits - 32, tl.bytes, sizeof tl.bytes);
-		HOLDS(booked, it, PIERSTRAND_BOOKED, 0, PIERSTRAND_SDS_TRANSFER, 1, 0xA1B2C3, 0xD4E5F6, 0x8B, 2, 1, 0, 1, 0, i, 0x15, 2,
-		      0x123456789ABC, 148, 13);
+		HOLDS(booking, it, PIERSTRAND_MARK_BOOKED, 0, TRANSFER_WITH(i), 148, 13);
 		index_has(i < PIERSTRAND_PAIRS ? i : PIERSTRAND_PAIRS, i);
 	}
 
 	/* The newest again; the short report and what is refused book nothing. */
 	it = booked_of(fields_of(1, &tl), tl.bits - 32, tl.bytes, sizeof tl.bytes);
-	HOLDS(booked, it, PIERSTRAND_AGAIN, 0, PIERSTRAND_SDS_TRANSFER, 1, 0xA1B2C3, 0xD4E5F6, 0x8B, 2, 1, 0, 1, 0, PIERSTRAND_PAIRS + 2,
-	      0x15, 2, 0x123456789ABC, 148, 13);
+	HOLDS(booking, it, PIERSTRAND_MARK_AGAIN, 0, TRANSFER_WITH(PIERSTRAND_PAIRS + 2), 148, 13);
 	it = booked_of(fields_of(1, &tls[3]), tls[3].bits, tls[3].bytes, sizeof tls[3].bytes);
-	HOLDS(booked, it, PIERSTRAND_NOT_BOOKED, 0, SHORT_REPORT_NUMBERS, 0, 0);
+	HOLDS(booking, it, PIERSTRAND_MARK_NONE, 0, SHORT_REPORT_NUMBERS, 0, 0);
 	it = booked_of(fields_of(1 << 24, &tl), tl.bits - 32, tl.bytes, sizeof tl.bytes);
-	HOLDS(booked, it, PIERSTRAND_NOT_BOOKED, PIERSTRAND_RANGE, NO_MESSAGE, 0, 0);
+	HOLDS(booking, it, PIERSTRAND_MARK_NONE, PIERSTRAND_FAULT_RANGE, NO_MESSAGE, 0, 0);
 	it = booked_of(fields_of(2, &tl), 0, tl.bytes, sizeof tl.bytes);
-	HOLDS(booked, it, PIERSTRAND_NOT_BOOKED, PIERSTRAND_NOT_SDS_TL, NO_MESSAGE, 0, 0);
+	HOLDS(booking, it, PIERSTRAND_MARK_NONE, PIERSTRAND_FAULT_NOT_SDS_TL, NO_MESSAGE, 0, 0);
 	index_has(PIERSTRAND_PAIRS, PIERSTRAND_PAIRS + 2);
+}
+
+/*
+ * Steps over the text's first bytes, 1B 40 65 8A AF D4 F9 1E 43. From bit 3 on: 11011 is 27, then 01000000 is 64,
+ * then 011 is 3, and so on to the end of what is lent.
+ */
+static void steps(void)
+{
+	HOLDS(step, TAKEN(9, 3, 5), 0, 27, 8);
+	HOLDS(step, TAKEN(9, 8, 8), 0, 0x40, 16);
+	HOLDS(step, TAKEN(9, 16, 3), 0, 3, 19);
+	HOLDS(step, TAKEN(9, 4, 56), 0, 0xB40658AAFD4F91, 60);
+	HOLDS(step, TAKEN(9, 16, 56), 0, 0x658AAFD4F91E43, 72);
+	HOLDS(step, TAKEN(9, 71, 1), 0, 1, 72);
+	HOLDS(step, TAKEN(9, 72, 0), 0, 0, 72);
+	HOLDS(step, TAKEN(9, 72, 1), PIERSTRAND_FAULT_LENGTH, 0, 72);
+	HOLDS(step, TAKEN(9, 70, 3), PIERSTRAND_FAULT_LENGTH, 0, 70);
+	HOLDS(step, TAKEN(9, 70, 57), PIERSTRAND_FAULT_RANGE, 0, 70);
+	HOLDS(step, TAKEN(9, 3, ~(size_t)0), PIERSTRAND_FAULT_RANGE, 0, 3);
+	HOLDS(step, TAKEN(9, ~(size_t)0, 0), 0, 0, ~(size_t)0);
+	HOLDS(step, TAKEN(9, ~(size_t)0, 8), PIERSTRAND_FAULT_LENGTH, 0, ~(size_t)0);
+	HOLDS(step, TAKEN(0, 0, 1), PIERSTRAND_FAULT_LENGTH, 0, 0);
+	HOLDS(step, SKIPPED(9, 3, 5), 0, 0, 8);
+	HOLDS(step, SKIPPED(9, 3, 69), 0, 0, 72);
+	HOLDS(step, SKIPPED(9, 3, 70), PIERSTRAND_FAULT_LENGTH, 0, 3);
+	HOLDS(step, SKIPPED(9, 80, 0), 0, 0, 80);
+	HOLDS(step, SKIPPED(9, 0, ~(size_t)0), PIERSTRAND_FAULT_LENGTH, 0, 0);
+	HOLDS(step, SKIPPED(sizeof text, 1, 4095), 0, 0, 4096);
+	IS(pierstrand_count_left(text, 9, 0), 72);
+	IS(pierstrand_count_left(text, 9, 71), 1);
+	IS(pierstrand_count_left(text, 9, 72), 0);
+	IS(pierstrand_count_left(text, 9, ~(size_t)0), 0);
+	IS(pierstrand_count_left(text, 0, 0), 0);
+	IS(pierstrand_count_left(text, sizeof text, 5), 4091);
 }
 
 /* The other faults: bits of the long header turned, other lengths, the longest message. */
@@ -857,40 +949,43 @@ static void faults(void)
 	static const struct {
 		uint8_t at, bits, fault;
 	} turned[] = {
-		{7, 0x01, PIERSTRAND_PAD}, {0, 0x20, PIERSTRAND_SYSTEM}, {0, 0x04, PIERSTRAND_SYNC_TYPE},
-		{0, 0x01, PIERSTRAND_COMMUNICATION}, {2, 0x08, PIERSTRAND_ENCRYPTION}, {1, 0x02, PIERSTRAND_FRAME},
-		{10, 0x30, PIERSTRAND_ADDRESS_TYPE}, {19, 0x01, PIERSTRAND_MESSAGE_TYPE}, {9, 0x09, PIERSTRAND_COUNT},
-		{9, 0x20, PIERSTRAND_FILL},
+		{7, 0x01, PIERSTRAND_FAULT_PAD}, {0, 0x20, PIERSTRAND_FAULT_SYSTEM},
+		{0, 0x04, PIERSTRAND_FAULT_SYNC_TYPE}, {0, 0x01, PIERSTRAND_FAULT_COMMUNICATION},
+		{2, 0x08, PIERSTRAND_FAULT_ENCRYPTION}, {1, 0x02, PIERSTRAND_FAULT_FRAME},
+		{10, 0x30, PIERSTRAND_FAULT_ADDRESS_TYPE}, {19, 0x01, PIERSTRAND_FAULT_MESSAGE_TYPE},
+		{9, 0x09, PIERSTRAND_FAULT_SLOT_COUNT}, {9, 0x20, PIERSTRAND_FAULT_FILL},
 	};
-	struct pierstrand_fields least = {.destination = {.kind = 2}, .source = {.kind = 2}, .message = 21};
+	struct pierstrand_fields least = {.destination = {.kind = 2}, .source = {.kind = 2}, .message_type = 21};
 	size_t most = 120 - 47 + 15 * 264;
-	uint8_t bytes[PIERSTRAND_SCH_F];
-	struct pierstrand_built b;
+	uint8_t bytes[PIERSTRAND_BYTES_SCH_F];
+	struct pierstrand_block_count b;
 
 	for (size_t i = 0; i < sizeof turned / sizeof turned[0]; i++) {
 		memcpy(bytes, long_header, sizeof long_header);
 		bytes[turned[i].at] ^= turned[i].bits;
-		HOLDS(header, header_of(bytes, PIERSTRAND_SCH_S, PIERSTRAND_SCH_H), turned[i].fault, 0, 0, 0, 0, 0, 0, 0, NO_FIELDS, 0, 0);
+		HOLDS(header, READ(bytes), turned[i].fault, NO_HEADER);
 	}
 	memcpy(bytes, CONTINUATION(0), sizeof bytes);
 	bytes[0] ^= 0x80;
-	HOLDS(continuation, continuation_of(bytes, PIERSTRAND_SCH_F), PIERSTRAND_PDU_TYPE, 0, 0, 0);
-	HOLDS(continuation, continuation_of(bytes, PIERSTRAND_SCH_F - 1), PIERSTRAND_LENGTH, 0, 0, 0);
-	HOLDS(header, header_of(long_header, PIERSTRAND_SCH_S - 1, PIERSTRAND_SCH_H), PIERSTRAND_LENGTH, 0, 0, 0, 0, 0, 0, 0, NO_FIELDS, 0, 0);
-	HOLDS(header, header_of(long_header, PIERSTRAND_SCH_S, PIERSTRAND_SCH_H - 1), PIERSTRAND_LENGTH, 0, 0, 0, 0, 0, 0, 0, NO_FIELDS, 0, 0);
-	IS(pierstrand_due_frame(13, 4, 0).fault, PIERSTRAND_RANGE);
-	IS(pierstrand_due_frame(13, 3, 15).fault, PIERSTRAND_TOO_LONG);
+	HOLDS(continuation, continuation_of(bytes, PIERSTRAND_BYTES_SCH_F), PIERSTRAND_FAULT_PDU_TYPE, 0, 0, 0);
+	HOLDS(continuation, continuation_of(bytes, PIERSTRAND_BYTES_SCH_F - 1), PIERSTRAND_FAULT_LENGTH, 0, 0, 0);
+	HOLDS(header, header_in(long_header, PIERSTRAND_BYTES_SCH_S - 1, PIERSTRAND_BYTES_SCH_H),
+	      PIERSTRAND_FAULT_LENGTH, NO_HEADER);
+	HOLDS(header, header_in(long_header, PIERSTRAND_BYTES_SCH_S, PIERSTRAND_BYTES_SCH_H - 1),
+	      PIERSTRAND_FAULT_LENGTH, NO_HEADER);
+	IS(pierstrand_find_due_frame(13, 4, 0).fault, PIERSTRAND_FAULT_RANGE);
+	IS(pierstrand_find_due_frame(13, 3, 15).fault, PIERSTRAND_FAULT_TOO_LONG);
 
 	memset(blocks, 0x5A, sizeof blocks);
-	b = pierstrand_build(long_sync, 0, least, most, text, sizeof text, blocks, PIERSTRAND_BLOCKS - 1);
-	HOLDS(built, &b, PIERSTRAND_LENGTH, 0);
-	b = pierstrand_build(long_sync, 0, least, most + 1, text, sizeof text, blocks, sizeof blocks);
-	HOLDS(built, &b, PIERSTRAND_TOO_LONG, 0);
+	b = pierstrand_build_blocks(long_sync, 0, least, most, text, sizeof text, blocks, PIERSTRAND_BYTES_BLOCKS - 1);
+	HOLDS(block_count, &b, PIERSTRAND_FAULT_LENGTH, 0);
+	b = pierstrand_build_blocks(long_sync, 0, least, most + 1, text, sizeof text, blocks, sizeof blocks);
+	HOLDS(block_count, &b, PIERSTRAND_FAULT_TOO_LONG, 0);
 	IS(blocks[0], 0x5A);
-	b = pierstrand_build(long_sync, 0, least, most, text, sizeof text, blocks, PIERSTRAND_BLOCKS);
-	HOLDS(built, &b, 0, 15);
-	IS(blocks[PIERSTRAND_BLOCKS - 1] & 0x0F, 0);
-	IS(blocks[PIERSTRAND_BLOCKS], 0x5A);
+	b = pierstrand_build_blocks(long_sync, 0, least, most, text, sizeof text, blocks, PIERSTRAND_BYTES_BLOCKS);
+	HOLDS(block_count, &b, 0, 15);
+	IS(blocks[PIERSTRAND_BYTES_BLOCKS - 1] & 0x0F, 0);
+	IS(blocks[PIERSTRAND_BYTES_BLOCKS], 0x5A);
 }
 
 int main(void)
@@ -900,23 +995,25 @@ int main(void)
 	print_shape(&fields, &set_fields);
 	print_shape(&header, &set_header);
 	print_shape(&continuation, &set_continuation);
-	print_shape(&built, &set_built);
-	print_shape(&due, &set_due);
-	print_shape(&lost, &set_lost);
+	print_shape(&block_count, &set_block_count);
+	print_shape(&due_frame, &set_due_frame);
+	print_shape(&loss, &set_loss);
 	print_shape(&answer, &set_answer);
 	print_shape(&receiver, &set_receiver);
-	print_shape(&fresh, &set_fresh);
+	print_shape(&fresh_receiver, &set_fresh_receiver);
 	print_shape(&message, &set_message);
 	print_shape(&transport, &set_transport);
 	print_shape(&sdu, &set_sdu);
 	print_shape(&bookings, &set_bookings);
-	print_shape(&booked, &set_booked);
+	print_shape(&booking, &set_booking);
+	print_shape(&step, &set_step);
 	builds();
 	reads();
 	hears();
 	faults();
 	transports();
 	books();
+	steps();
 	printf("%lu held, %lu wrong\n", held, wrong);
 	return wrong != 0;
 }

@@ -138,9 +138,9 @@ static uint8_t read_sch_h(const uint8_t *h, struct dm_header *header)
 	if (f->source.type == RESERVED)
 		return DM_ADDRESS_TYPE;
 	f->mni = bitvec_get_uint(&bv, 24);
-	f->message = bitvec_get_uint(&bv, 5);
+	f->message_type = bitvec_get_uint(&bv, 5);
 
-	t = &widths[f->message];
+	t = &widths[f->message_type];
 	if (t->width == NO_ENTRY)
 		return DM_MESSAGE;
 	f->width = width_at(t, &bv);
@@ -256,7 +256,7 @@ static void set_header(uint8_t *h, const struct cut *cut, unsigned countdown,
 	set_address(&bv, &f->dest);
 	set_address(&bv, &f->source);
 	bitvec_set_uint(&bv, f->mni, 24);
-	bitvec_set_uint(&bv, f->message, 5);
+	bitvec_set_uint(&bv, f->message_type, 5);
 	bitvec_set_u64(&bv, f->elements, f->width, false);
 	set_room(&bv, message, cut->inside, HEADER_BITS);
 }
@@ -306,5 +306,25 @@ static void clear_countdown(uint8_t *h, int fragmented)
 	bitvec_set_uint(&bv, 0, 2);
 }
 
+uint8_t dm_take(const uint8_t *lent, size_t length, size_t at, size_t n, struct dm_step *step)
+{
+	struct bitvec bv = over(lent, length);
+	unsigned high = n > 32 ? n - 32 : 0;
+
+	step->value = 0;
+	step->at = at;
+	if (n > MOST_TAKEN)
+		return DM_RANGE;
+	if (dm_left(lent, length, at) < n)
+		return DM_LENGTH;
+	skip(&bv, at);
+	if (high)
+		step->value = (uint64_t)bitvec_get_uint(&bv, high) << 32;
+	step->value |= (uint32_t)bitvec_get_uint(&bv, n - high);
+	step->at = at + n;
+	return 0;
+}
+
 #include "../shared/receiver.h"
+#include "../shared/steps.h"
 #include "transport.h"

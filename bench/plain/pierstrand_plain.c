@@ -133,10 +133,10 @@ static uint8_t read_sch_h(const uint8_t *h, struct dm_header *header)
 	if (f->source.type == RESERVED)
 		return DM_ADDRESS_TYPE;
 	f->mni = get(h, at, 24);
-	f->message = get(h, at + 24, 5);
+	f->message_type = get(h, at + 24, 5);
 	at += 24 + 5;
 
-	t = &widths[f->message];
+	t = &widths[f->message_type];
 	if (t->width == NO_ENTRY)
 		return DM_MESSAGE;
 	f->width = width_at(t, h, at);
@@ -236,7 +236,7 @@ static unsigned put_sch_h(uint8_t *h, unsigned count, unsigned countdown,
 	at = put_address(h, at + 2, &f->dest);
 	at = put_address(h, at, &f->source);
 	put(h, at, 24, f->mni);
-	put(h, at + 24, 5, f->message);
+	put(h, at + 24, 5, f->message_type);
 	at += 24 + 5;
 	if (f->width > 24) {
 		put(h, at, f->width - 24, f->elements >> 24);
@@ -301,5 +301,26 @@ static void clear_countdown(uint8_t *h, int fragmented)
 		h[1] &= 0xf3;
 }
 
+uint8_t dm_take(const uint8_t *lent, size_t length, size_t at, size_t n, struct dm_step *step)
+{
+	size_t last = at + n - 1;
+	uint64_t v = 0;
+
+	step->value = 0;
+	step->at = at;
+	if (n > MOST_TAKEN)
+		return DM_RANGE;
+	if (dm_left(lent, length, at) < n)
+		return DM_LENGTH;
+	if (n == 0)
+		return 0;
+	for (size_t i = at / 8; i <= last / 8; i++)
+		v = v << 8 | lent[i];
+	step->value = v >> (7 - last % 8) & ((UINT64_C(1) << n) - 1);
+	step->at = at + n;
+	return 0;
+}
+
 #include "../shared/receiver.h"
+#include "../shared/steps.h"
 #include "transport.h"

@@ -1,10 +1,11 @@
 /*
  * Direct mode blocks of EN 300 396-3: reading, building, and a receiver of slot reports. SDS-TL
- * messages: reading, building, and an index of what was booked.
+ * messages: reading, building, and an index of what was booked. Steps over lent bits.
  * The calls of the proved library, in plain C. Both peers have them.
  *
  * Bits are packed eight to a byte, first bit highest. Faults and outcomes are numbers:
- * 0 is no fault. A call that is refused gives 0 for everything else and writes nothing.
+ * 0 is no fault. A call that is refused gives 0 for everything else and writes nothing; a step gives
+ * the position as it was.
  */
 #ifndef PIERSTRAND_PLAIN_H
 #define PIERSTRAND_PLAIN_H
@@ -91,7 +92,7 @@ struct dm_fields {
 	struct dm_address source;
 	uint64_t elements;
 	uint32_t mni;
-	uint8_t message;
+	uint8_t message_type;
 	uint8_t width;
 };
 
@@ -208,6 +209,12 @@ struct dm_booked {
 	struct dm_transport transport;
 };
 
+/* A step over lent bits: their number, where they were taken, and the bit after them. */
+struct dm_step {
+	uint64_t value;
+	size_t at;
+};
+
 /* A fresh receiver. Fault 13: a setting is 2^24 or more; the receiver's three are then 0. */
 uint8_t dm_fresh(struct dm_receiver *r, uint32_t individual, uint32_t group, uint32_t mni);
 
@@ -244,5 +251,10 @@ void dm_fresh_bookings(struct dm_bookings *b);
 /* Reads a DM-SDU, and books it if it is a transfer that is not among the last booked. */
 uint8_t dm_book(struct dm_bookings *b, const struct dm_fields *fields, uint32_t n,
 		const uint8_t *sdu, size_t length, struct dm_booked *booked);
+
+/* Takes the n bits, up to 56, from bit `at` on; goes past n bits; counts those that are left. */
+uint8_t dm_take(const uint8_t *lent, size_t length, size_t at, size_t n, struct dm_step *step);
+uint8_t dm_skip(const uint8_t *lent, size_t length, size_t at, size_t n, struct dm_step *step);
+size_t dm_left(const uint8_t *lent, size_t length, size_t at);
 
 #endif

@@ -164,7 +164,7 @@ uint8_t dm_read_transport(const struct dm_fields *fields, uint32_t n, const uint
 
 	memset(t, 0, sizeof *t);
 	if (n / 8 + (n % 8 != 0) <= length)
-		fault = read_sdu(fields->message, fields->elements & 1, sdu, n, t);
+		fault = read_sdu(fields->message_type, fields->elements & 1, sdu, n, t);
 	if (fault)
 		memset(t, 0, sizeof *t);
 	return fault;

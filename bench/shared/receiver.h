@@ -37,9 +37,9 @@ static void drop(struct dm_receiver *r, struct dm_answer *answer)
 	if (!r->due)
 		return;
 	answer->dropped = 1;
-	if (r->fields.message == DM_SDS_DATA || r->fields.message == DM_SDS_ACK) {
+	if (r->fields.message_type == DM_SDS_DATA || r->fields.message_type == DM_SDS_ACK) {
 		answer->lost.source = r->fields.source.ssi;
-		answer->lost.message_type = r->fields.message;
+		answer->lost.message_type = r->fields.message_type;
 		answer->lost.bits = r->bits;
 	}
 	close_assembly(r);

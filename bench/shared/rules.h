@@ -17,6 +17,7 @@
 #define MOST_BLOCKS 15
 #define FIRST_SYSTEM 10 /* system codes 10 to 15 are direct mode's (9.3.29) */
 #define FRAMES 18
+#define MOST_TAKEN 56   /* bits in one step */
 
 #define ABSENT 2 /* address types (9.3.5, 9.3.27) */
 #define RESERVED 3
@@ -107,7 +108,7 @@ static inline int element_set(const struct dm_fields *f, unsigned flag)
 /* The stated width is the table's for the run's own flags, and the number fits it. */
 static int elements_fit(const struct dm_fields *f)
 {
-	const struct widths *t = &widths[f->message];
+	const struct widths *t = &widths[f->message_type];
 	unsigned more = 0;
 
 	if (t->width == NO_ENTRY)
@@ -147,12 +148,12 @@ static uint8_t plan(const struct dm_sync *sync, unsigned countdown, const struct
 	if (sync->frame < 1 || sync->frame > FRAMES)
 		return DM_FRAME;
 	if (sync->usage > 3 || sync->slot > 3 || countdown > 3 || !address_fits(&f->dest) ||
-	    !address_fits(&f->source) || f->mni >= 1u << 24 || f->message > 31 ||
+	    !address_fits(&f->source) || f->mni >= 1u << 24 || f->message_type > 31 ||
 	    !elements_fit(f) || n / 8 + (n % 8 != 0) > lent)
 		return DM_RANGE;
 	if (f->dest.type == RESERVED || f->source.type == RESERVED)
 		return DM_ADDRESS_TYPE;
-	if (widths[f->message].width == NO_ENTRY)
+	if (widths[f->message_type].width == NO_ENTRY)
 		return DM_MESSAGE;
 
 	bits = FIXED_BITS + address_bits(f->dest.type) + address_bits(f->source.type) + f->width;

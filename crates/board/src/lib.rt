@@ -1,10 +1,12 @@
-// The board's library: each public call under a name for C (include/pierstrand.h). What a call promises is what the Rattle function that it calls promises.
+// The board's library: each public call under a name for C (include/pierstrand.h). What a call promises is what the
+// Rattle function that it calls promises.
 ghost use mathlib.Core.Path.{_≡_};
 ghost use lib.ListN.{length};
 ghost use Rattle.blocks.specs.Continuation.{readContinuation};
 ghost use Rattle.blocks.specs.Header.{readHeader};
 ghost use Rattle.blocks.specs.Slots.{dueOf};
 ghost use Rattle.build.specs.Build.{buildOf, outOf};
+ghost use Rattle.reader.specs.Reading.{takenAt, skippedAt, leftOf};
 ghost use Rattle.reports.specs.Lent.{lent};
 ghost use Rattle.receiver.specs.View.{freshOf};
 ghost use Rattle.receiver.specs.Reached.{Reached, Hears};
@@ -22,6 +24,7 @@ use blocks::sync::Sync;
 use bookings::Booked;
 use bookings::Bookings;
 use build::Built;
+use reader::Step;
 use receiver::Fresh;
 use receiver::Receiver;
 use receiver::answer::Answer;
@@ -31,7 +34,7 @@ use transport::Transport;
 
 // A fresh receiver, or the fault of its settings: `Receiver::fresh`.
 #[no_mangle]
-pub extern "C" fn pierstrand_fresh(individual: u32, group: u32, mni: u32) -> Fresh
+pub extern "C" fn pierstrand_make_receiver(individual: u32, group: u32, mni: u32) -> Fresh
     ensures { λ r. ⌜ (r ≡ freshOf individual group mni) × Reached (r .receiver) ⌝ }
 {
     Receiver::fresh(individual, group, mni)
@@ -48,7 +51,9 @@ pub extern "C" fn pierstrand_hear(
     message: &mut [u8],
 ) -> Answer
     requires { ⌜ Reached (now r) ⌝ }
-    ensures { λ a. ⌜ Reached (now (r .exit)) × Hears (now (r .entry)) (lent frame slot kind (now (blocks .entry))) (replied (now (r .exit)) a) (now (message .entry)) (now (message .exit)) ⌝ }
+    ensures { λ a. ⌜ Reached (now (r .exit))
+        × Hears (now (r .entry)) (lent frame slot kind (now (blocks .entry))) (replied (now (r .exit)) a)
+        (now (message .entry)) (now (message .exit)) ⌝ }
 {
     let h = r.hear(frame, slot, kind, blocks, message);
     *r = h.receiver;
@@ -57,7 +62,7 @@ pub extern "C" fn pierstrand_hear(
 
 // Builds the blocks of the first `n` bits of a message: `build::build`.
 #[no_mangle]
-pub extern "C" fn pierstrand_build(
+pub extern "C" fn pierstrand_build_blocks(
     sync: Sync,
     countdown: u8,
     fields: Fields,
@@ -89,7 +94,7 @@ pub extern "C" fn pierstrand_read_continuation(s: &[u8]) -> Continuation
 
 // The frame of block `i` of a message whose header stands in frame `x` with countdown `f`: `due_frame`.
 #[no_mangle]
-pub extern "C" fn pierstrand_due_frame(x: u8, f: u8, i: u8) -> Due
+pub extern "C" fn pierstrand_find_due_frame(x: u8, f: u8, i: u8) -> Due
     ensures { λ r. ⌜ r ≡ dueOf x f i ⌝ }
 {
     blocks::slots::due_frame(x, f, i)
@@ -121,7 +126,7 @@ pub extern "C" fn pierstrand_build_transport(
 
 // An index in which nothing is booked: `Bookings::fresh`.
 #[no_mangle]
-pub extern "C" fn pierstrand_fresh_bookings() -> Bookings
+pub extern "C" fn pierstrand_make_bookings() -> Bookings
     ensures { λ r. ⌜ (r ≡ bookingsAt start) × IndexReached r ⌝ }
 {
     Bookings::fresh()
@@ -137,4 +142,28 @@ pub extern "C" fn pierstrand_book(b: &mut Bookings, fields: Fields, n: usize, sd
     let h = b.book(fields, n, sdu);
     *b = h.bookings;
     h.booked
+}
+
+// Takes the `w` bits from bit `at` on as a number: `reader::take_at`.
+#[no_mangle]
+pub extern "C" fn pierstrand_take_bits(s: &[u8], at: usize, w: usize) -> Step
+    ensures { λ r. ⌜ r ≡ takenAt (now (s .entry)) at w ⌝ }
+{
+    reader::take_at(s, at, w)
+}
+
+// Goes past the `n` bits from bit `at` on: `reader::skip_at`.
+#[no_mangle]
+pub extern "C" fn pierstrand_skip_bits(s: &[u8], at: usize, n: usize) -> Step
+    ensures { λ r. ⌜ r ≡ skippedAt (now (s .entry)) at n ⌝ }
+{
+    reader::skip_at(s, at, n)
+}
+
+// How many bits are left from bit `at` on: `reader::left_at`.
+#[no_mangle]
+pub extern "C" fn pierstrand_count_left(s: &[u8], at: usize) -> usize
+    ensures { λ r. ⌜ r ≡ leftOf (now (s .entry)) at ⌝ }
+{
+    reader::left_at(s, at)
 }

@@ -17,7 +17,8 @@ read :
 unfolding takenAt skippedAt leftOf bitsOf bitsN testBit num bit
 read = (refl, refl, refl, refl)
 
--- At the end no bit is left to take or to skip; taking none is no fault. Nine bits are more than the block has, 57 more than one take has.
+-- At the end no bit is left to take or to skip; taking none is no fault. Nine bits are more than the block has, 57 more
+-- than one take has.
 refused :
     (takenAt block 8 1 ≡ refusedAt 1 8)
     × (skippedAt block 8 1 ≡ refusedAt 1 8)

@@ -1,4 +1,5 @@
--- A reader as the walks see it: its type at the lifetime of its block, and what it owns. A reader is Copy, so that what it owns is had twice.
+-- A reader as the walks see it: its type at the lifetime of its block, and what it owns. A reader is Copy, so that what
+-- it owns is had twice.
 use mathlib.Core.Path.{_≡_}
 use Prim.Native.Nat.{_<_, _^_}
 use mathlib.Core.List.{List, [], _∷_}
@@ -67,14 +68,18 @@ module _ (κ : Lft) (h : Reader) where
 
   module _ {M : Type 1} (𝓤 : URA M) (H : Heap 𝓤) (A : Atoms 𝓤) (W : Given 𝓤 H A) where
     -- the block's machine value has its type
-    pub block-typed : {vs : List Val} → Is (B κ) h vs → Holds (hasTy (pointee (ShrSlice erased κ u8 .written)) block-val) × WT block-val
-    block-typed is = shr-slice-lawful 𝓤 H A W erased κ u8 .typed (h .block) (block-val ∷ []) (LL.owed (D κ) (L κ) h _ is .0) .0
+    pub block-typed : {vs : List Val} → Is (B κ) h vs
+        → Holds (hasTy (pointee (ShrSlice erased κ u8 .written)) block-val) × WT block-val
+    block-typed is =
+        shr-slice-lawful 𝓤 H A W erased κ u8 .typed (h .block) (block-val ∷ []) (LL.owed (D κ) (L κ) h _ is .0) .0
 
     -- what the block owns, beside what the reader owns
     pub block-too : ent 𝓤 (sem 𝓤 H A Own) (sep 𝓤 (sem 𝓤 H A Block) (sem 𝓤 H A Own))
     block-too =
         qed W (‵ Own ∷ []) ∵
         use1 W (‵ Own ⊛ ‵ Own) (LL.copy (D κ) (T′.the-copy (α κ)) 𝓤 H A W .twice h (T′.lowered h ∷ [])) $ split ! $
-        use1 W (given (T′.lowered h ∷ [] ≡ T′.lowered h ∷ []) (‵ (all-own (D κ .parts) (L κ) vd))) (own-open 𝓤 H A W (D κ) (L κ) vd (T′.lowered h)) $ learn ! (λ _.
-        use1 W (‵ (ownAt (D κ .parts) (L κ) 0 (h .block)) ⊛ ‵ (rest (D κ .parts) (L κ) 0 vd)) (own-out 𝓤 H A W (D κ .parts) (L κ) 0 vd) $ split ! $
+        use1 W (given (T′.lowered h ∷ [] ≡ T′.lowered h ∷ []) (‵ (all-own (D κ .parts) (L κ) vd)))
+        (own-open 𝓤 H A W (D κ) (L κ) vd (T′.lowered h)) $ learn ! (λ _.
+        use1 W (‵ (ownAt (D κ .parts) (L κ) 0 (h .block)) ⊛ ‵ (rest (D κ .parts) (L κ) 0 vd))
+        (own-out 𝓤 H A W (D κ .parts) (L κ) 0 vd) $ split ! $
         move ! (1 ∷ []) $ drop ! $ frame ! $ done !)

@@ -39,7 +39,8 @@ same-if false at w v none h = let z : w ≡ 0 = omega (arith, h) in rw (none z) 
 pub stays : (s : List ℕ) (at w : ℕ) {t : Step} → t ≡ skippedAt s at w → t .at ≡ at → w ≤ 56 → t ≡ takenAt s at w
 unfolding skippedAt num
 stays s at w e h n =
-    e ∙ same-if (ltb (leftOf s at) w) at w (field at w (bitsOf s)) (λ z. rw z refl) (subst (λ (t : Step). t .at ≡ at) e h) ∙ narrow s at w n
+    e ∙ same-if (ltb (leftOf s at) w) at w (field at w (bitsOf s)) (λ z. rw z refl)
+    (subst (λ (t : Step). t .at ≡ at) e h) ∙ narrow s at w n
 
 -- A skip that goes on: it had bits to pass, and as many were left.
 pub record Went (l at w to : ℕ) : Type 0 where
@@ -52,17 +53,21 @@ went-if : (d : Bool) (l at w : ℕ) → ltb l w ≡ d → (cond d (refusedAt 1 a
 went-if true l at w e h = absurd (h refl)
 went-if false l at w e h = record { some = omega (arith, h); there = ltb-false l w e; is = refl }
 
-pub goes : (s : List ℕ) (at w : ℕ) {t : Step} → t ≡ skippedAt s at w → (t .at ≡ at → ⊥) → Went (leftOf s at) at w (t .at)
+pub goes : (s : List ℕ) (at w : ℕ) {t : Step} → t ≡ skippedAt s at w → (t .at ≡ at → ⊥)
+    → Went (leftOf s at) at w (t .at)
 unfolding skippedAt
 goes s at w e =
-    subst (λ (t : Step). (t .at ≡ at → ⊥) → Went (leftOf s at) at w (t .at)) (sym e) (went-if (ltb (leftOf s at) w) (leftOf s at) at w refl)
+    subst (λ (t : Step). (t .at ≡ at → ⊥) → Went (leftOf s at) at w (t .at)) (sym e)
+    (went-if (ltb (leftOf s at) w) (leftOf s at) at w refl)
 
 -- With the number of these bits it is a take.
-pub taken : (s : List ℕ) (at w : ℕ) {v to : ℕ} → v ≡ field at w (bitsOf s) → Went (leftOf s at) at w to → w ≤ 56 → madeTo v to ≡ takenAt s at w
+pub taken : (s : List ℕ) (at w : ℕ) {v to : ℕ} → v ≡ field at w (bitsOf s) → Went (leftOf s at) at w to → w ≤ 56
+    → madeTo v to ≡ takenAt s at w
 taken s at w e g n = rw (e, g .is) (near s at w (field at w (bitsOf s)) refl (g .there) ∙ narrow s at w n)
 
 -- The number of w bits is below 2 ^ w; so is the 0 of a refusal.
-small-if : (d e : Bool) (at w v : ℕ) → v < 2 ^ w → cond d (refusedAt 13 at) (cond e (refusedAt 1 at) (madeTo v (at + w))) .value < 2 ^ w
+small-if : (d e : Bool) (at w v : ℕ) → v < 2 ^ w
+    → cond d (refusedAt 13 at) (cond e (refusedAt 1 at) (madeTo v (at + w))) .value < 2 ^ w
 small-if true e at w v h = pow-pos w
 small-if false true at w v h = pow-pos w
 small-if false false at w v h = h

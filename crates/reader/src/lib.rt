@@ -10,7 +10,9 @@ pub struct Reader<'a> {
     pub at: usize,
 }
 
-// A step from a position: fault 0, a number, and the position after it. A refusal has its fault number, no number (0), and the position as it was.
+// A step from a position: fault 0, a number, and the position after it. A refusal has its fault number, no number (0),
+// and the position as it was.
+#[repr(C)]
 pub struct Step {
     pub fault: u8,
     pub value: u64,
@@ -44,7 +46,8 @@ fn bits_in(s: &[u8]) -> usize
     4294967296
 }
 
-// How many bits are left from bit `at` on: none past the end. Of a block above 2^29 bytes only the first 2^32 bits count.
+// How many bits are left from bit `at` on: none past the end. Of a block above 2^29 bytes only the first 2^32 bits
+// count.
 pub fn left_at(s: &[u8], at: usize) -> usize
     ensures { λ r. ⌜ r ≡ leftOf (now (s .entry)) at ⌝ }
 {
@@ -69,7 +72,8 @@ pub fn skip_at(s: &[u8], at: usize, n: usize) -> Step
     }
 }
 
-// A step past the `w` bits from bit `at` on, with their number. Refused with 13 where `w` is above 56, then with 1 where fewer are left.
+// A step past the `w` bits from bit `at` on, with their number. Refused with 13 where `w` is above 56, then with 1
+// where fewer are left.
 pub fn take_at(s: &[u8], at: usize, w: usize) -> Step
     ensures { λ r. ⌜ r ≡ takenAt (now (s .entry)) at w ⌝ }
 {

@@ -25,7 +25,8 @@ get-requires c κs =
 
 returns-3 : tie.Need-returns-3
 returns-3 c =
-    taken _ _ _ (c .get .ensures .is) (goes _ _ _ (c .before .before .skip-at .ensures) (c .before .if2 .left)) (search needs)
+    taken _ _ _ (c .get .ensures .is) (goes _ _ _ (c .before .before .skip-at .ensures) (c .before .if2 .left))
+    (search needs)
 
 pub take-at-spec : {M : Type 1} → statement M
 take-at-spec =

@@ -9,4 +9,6 @@ use Rattle.reader.proofs.Reader.skip.Code as code
 
 pub skip-spec : {M : Type 1} → statement M
 unfolding code.routine
-skip-spec 𝓤 H 𝓜 𝓖 𝓡 = moves skippedAt step.name 𝓤 H 𝓜 𝓖 𝓡 name code.env step.routine (code.unfolded 𝓤 H 𝓜 𝓡) code.calls-reader·skip-at (met 𝓤 H 𝓜 𝓖 𝓡)
+skip-spec 𝓤 H 𝓜 𝓖 𝓡 =
+    moves skippedAt step.name 𝓤 H 𝓜 𝓖 𝓡 name code.env step.routine (code.unfolded 𝓤 H 𝓜 𝓡) code.calls-reader·skip-at
+    (met 𝓤 H 𝓜 𝓖 𝓡)

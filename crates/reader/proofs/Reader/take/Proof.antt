@@ -9,4 +9,6 @@ use Rattle.reader.proofs.Reader.take.Code as code
 
 pub take-spec : {M : Type 1} → statement M
 unfolding code.routine
-take-spec 𝓤 H 𝓜 𝓖 𝓡 = moves takenAt step.name 𝓤 H 𝓜 𝓖 𝓡 name code.env step.routine (code.unfolded 𝓤 H 𝓜 𝓡) code.calls-reader·take-at (met 𝓤 H 𝓜 𝓖 𝓡)
+take-spec 𝓤 H 𝓜 𝓖 𝓡 =
+    moves takenAt step.name 𝓤 H 𝓜 𝓖 𝓡 name code.env step.routine (code.unfolded 𝓤 H 𝓜 𝓡) code.calls-reader·take-at
+    (met 𝓤 H 𝓜 𝓖 𝓡)
