@@ -1,4 +1,4 @@
--- The demands and the examples, each file readable alone.
+-- The demands, the requests and the examples.
 pub mod Examples
 pub mod Demand2
 pub mod Calls

@@ -9,6 +9,7 @@ use Rattle.history.specs.Slots.{Header, fragmented, Report}
 use Rattle.history.specs.History.{History, Unbroken, join, Run, IsOpen, Closes, Opens, Repeats}
 use Rattle.history.specs.History.{IsAcknowledged, loss, Loses}
 
+-- What becomes of an opened assembly.
 pub data Way : Type 0 where
   still-open handed-over lost opened-anew : Way
 
