@@ -4,7 +4,7 @@ use mathlib.Core.Bool.{Bool, true, false, cond, _&&_}
 use mathlib.Core.List.{List, [], _++_}
 use Prim.Native.Nat.{ℕ, zero, suc, _+_, _-_, _≤_, _<_}
 use native.Mathlib.Omega.{arith}
-use lib.Dec.{eqb, leb}
+use lib.Dec.{eqb}
 use lib.ListN.{length, take, drop, length-drop}
 use lib.Seq.{drop-drop, take-all}
 use borrow.Author.Tests.{leb-true, leb-false, eqb-true, eqb-false, eq-eqb, ne-eqb}
@@ -17,7 +17,7 @@ use Rattle.receiver.specs.Reached.{receiverAt, Leads, Reached}
 use Rattle.receiver.specs.declared.Receiver.{Receiver}
 use Rattle.slotlog.specs.Print.{linesOf}
 use Rattle.slotlog.specs.Runs.{Passed, passed, Replies, stateOf, shownLine, Stage, onward, turn, turns, runOver}
-use Rattle.slotlog.specs.Runs.{runAt, Ran, OneAs, One, only, Writes}
+use Rattle.slotlog.specs.Runs.{hasRoom, runAt, Ran, OneAs, One, only, Writes}
 use Rattle.slotlog.specs.declared.replies.NextReply.{NextReply}
 use Rattle.slotlog.specs.declared.run.Run.{Run}
 use Rattle.slotlog.proofs.RunLaws.{next-inside, next-forward, next-leads, next-goes, goes-none, goes-both}
@@ -35,11 +35,11 @@ module _ (s : Settings) (log : List ℕ) where
 
   module _ (room : ℕ) (x : Stage) where
     -- a turn is made; it is not for want of room, or in another state
-    turn-made : x .state ≡ 0 → leb 128 (room - length (x .text)) ≡ true → turn s log room x ≡ onward x (ahead x)
+    turn-made : x .state ≡ 0 → hasRoom room (length (x .text)) ≡ true → turn s log room x ≡ onward x (ahead x)
     turn-made e h = rw (eq-eqb (x .state) 0 e, h) refl
 
-    turn-full : leb 128 (room - length (x .text)) ≡ false → turn s log room x ≡ x
-    turn-full h = full-when (eqb (x .state) 0) (leb 128 (room - length (x .text))) h
+    turn-full : hasRoom room (length (x .text)) ≡ false → turn s log room x ≡ x
+    turn-full h = full-when (eqb (x .state) 0) (hasRoom room (length (x .text))) h
       where
         full-when : (b c : Bool) → c ≡ false → cond (b && c) (onward x (ahead x)) x ≡ x
         full-when true c h = rw h refl
@@ -116,7 +116,7 @@ module _ (s : Settings) (ls : Line Event) (log : List ℕ) where
 
   module _ (room : ℕ) where
     come-turn : (x : Stage) → Come x → Come (turn s log room x)
-    come-turn x c = when (eqb (x .state) 0) (leb 128 (room - length (x .text))) refl
+    come-turn x c = when (eqb (x .state) 0) (hasRoom room (length (x .text))) refl
       where
         when : (a b : Bool) → eqb (x .state) 0 ≡ a → Come (cond (a && b) (onward x (ahead s log x)) x)
         when true true e = come-on x c (eqb-true (x .state) 0 e)
@@ -129,7 +129,7 @@ module _ (s : Settings) (ls : Line Event) (log : List ℕ) where
     come-turns (suc k) x c = come-turns k (turn s log room x) (come-turn x c)
 
     pub come-over : Come (runOver s ls log room)
-    come-over = come-turns (suc (length log)) (first ls) come-first
+    come-over = come-turns _ (first ls) come-first
 
     -- with turns enough it stops in state 0 for want of room only
     abbrev Full : Stage → Type 0
@@ -140,11 +140,11 @@ module _ (s : Settings) (ls : Line Event) (log : List ℕ) where
     full-turns zero x c h = λ z. let m = rw (eq-eqb (x .state) 0 z) at h in absurd (omega arith)
     full-turns (suc k) x c h =
         let y = onward x (ahead s log x) in
-        when (λ d l. full-turns k y d l) (eqb (x .state) 0) (leb 128 (room - length (x .text))) refl refl
+        when (λ d l. full-turns k y d l) (eqb (x .state) 0) (hasRoom room (length (x .text))) refl refl
       where
         when : (let y = onward x (ahead s log x) in Come y → left-in log (y .state) (y .read) ≤ k
             → Full (turns k s log room y))
-            → (a b : Bool) → eqb (x .state) 0 ≡ a → leb 128 (room - length (x .text)) ≡ b
+            → (a b : Bool) → eqb (x .state) 0 ≡ a → hasRoom room (length (x .text)) ≡ b
             → Full (turns k s log room (cond (a && b) (onward x (ahead s log x)) x))
         when more true true e f =
             let z = eqb-true (x .state) 0 e in
@@ -157,7 +157,7 @@ module _ (s : Settings) (ls : Line Event) (log : List ℕ) where
             rw (turns-still s log room k x (turn-over s log room x n)) (λ z. absurd (n z))
 
     pub run-full : Full (runOver s ls log room)
-    run-full = full-turns (suc (length log)) (first ls) come-first (omega arith)
+    run-full = full-turns _ (first ls) come-first (omega arith)
 
 -- ---- the loop
 
@@ -235,15 +235,15 @@ rest-is at log = take-all (length log - at) (drop at log) (omega (arith, length-
 
 module _ {before : Receiver} {log old : List ℕ} {x : Run} {new : List ℕ} (f : SoFar before log old x new) where
   -- the room that it has for a line
-  pub room-left : leb 128 (length new - x .written) ≡ true → x .written + 128 ≤ length new
+  pub room-left : hasRoom (length new) (x .written) ≡ true → x .written + 128 ≤ length new
   room-left e = omega (arith, f .room, f .same, leb-true 128 (length new - x .written) e)
 
   -- the stage's text is what was written
   room-is : {s : Settings} {ls : Line Event} (a : At s ls log old x new) {b : Bool}
-      → leb 128 (length new - x .written) ≡ b → leb 128 (length old - length (a .stage .text)) ≡ b
+      → hasRoom (length new) (x .written) ≡ b → hasRoom (length old) (length (a .stage .text)) ≡ b
   room-is a e =
       let n : length (a .stage .text) ≡ x .written = omega (arith, a .wrote .after) in
-      ap₂ (λ (i j : ℕ). leb 128 (i - j)) (sym (f .same)) n ∙ e
+      ap₂ hasRoom (sym (f .same)) n ∙ e
 
   module _ {y : Run} {late : List ℕ} (z : x .state ≡ 0) (o : One (drop (x .read) log) x new y late) where
     -- the next record, for the settings and reports that are known to lead to the receiver
@@ -256,7 +256,7 @@ module _ {before : Receiver} {log old : List ℕ} {x : Run} {new : List ℕ} (f 
         rw (known .state, known .read)
         (fewer-left (f .reached .settings) (f .reached .heard) log (x .read) (x .state) (f .inside) z)
 
-    at-next : (s : Settings) (ls : Line Event) → leb 128 (length new - x .written) ≡ true → (a : At s ls log old x new)
+    at-next : (s : Settings) (ls : Line Event) → hasRoom (length new) (x .written) ≡ true → (a : At s ls log old x new)
         → (k : ℕ) → a .left ≡ k → At s ls log old y late
     unfolding turns
     at-next s ls h a zero e =
@@ -278,7 +278,7 @@ module _ {before : Receiver} {log old : List ℕ} {x : Run} {new : List ℕ} (f 
           wrote = wrote-both old 0 (u .text) (shownLine (p .shown)) (a .wrote) (w .wrote) (f .room);
         }
 
-    pub further : leb 128 (length new - x .written) ≡ true → length late ≡ length new → SoFar before log old y late
+    pub further : hasRoom (length new) (x .written) ≡ true → length late ≡ length new → SoFar before log old y late
     further h l =
         let r = room-left h in
         let i = next-inside (f .reached .settings) (f .reached .heard) (drop (x .read) log) in
@@ -313,7 +313,7 @@ module _ {before : Receiver} {log old : List ℕ} {x : Run} {new : List ℕ} (f 
         room = omega (arith, f .room, f .same);
       }
 
-  pub ran-full : leb 128 (length new - x .written) ≡ false → Ran before log old x new
+  pub ran-full : hasRoom (length new) (x .written) ≡ false → Ran before log old x new
   ran-full h = ran (λ s ls a. turn-full s log (length old) (a .stage) (room-is a h))
 
   pub ran-over : (x .state ≡ 0 → ⊥) → Ran before log old x new

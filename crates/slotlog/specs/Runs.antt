@@ -1,7 +1,7 @@
 -- A run over a log that comes in parts, as a function of the unit's settings, the reports that it has heard, the part
 -- of the log and the room for its lines.
 use mathlib.Core.Path.{_≡_}
-use mathlib.Core.Bool.{cond, _&&_}
+use mathlib.Core.Bool.{Bool, cond, _&&_}
 use mathlib.Core.List.{List, [], _∷_, _++_}
 use mathlib.Core.Option.{Option, none, some}
 use Prim.Native.Nat.{ℕ, zero, suc, _+_, _-_, _≤_}
@@ -101,9 +101,12 @@ onward x p =
     }
 
 -- A run goes on in state 0, with 128 bytes of the output left for a line.
+abbrev pub hasRoom : ℕ → ℕ → Bool
+hasRoom room written = leb 128 (room - written)
+
 abbrev pub turn : Settings → List ℕ → ℕ → Stage → Stage
 turn s log room x =
-    cond (eqb (x .state) 0 && leb 128 (room - length (x .text)))
+    cond (eqb (x .state) 0 && hasRoom room (length (x .text)))
     (onward x (passed s (x .heard) (drop (x .read) log))) x
 
 -- At most so many turns.

@@ -4,7 +4,7 @@ ghost use Prim.Native.Nat.{_+_, _≤_};
 ghost use lib.ListN.{length, take};
 ghost use Rattle.receiver.specs.Reached.{Reached};
 ghost use Rattle.slotlog.specs.Room.{movedUp};
-ghost use Rattle.slotlog.specs.Runs.{stateOf, One, Ran};
+ghost use Rattle.slotlog.specs.Runs.{stateOf, hasRoom, One, Ran};
 use crate::print::shown_line;
 use crate::replies::Shown;
 use crate::replies::next;
@@ -30,6 +30,14 @@ fn state_of(shown: Shown) -> u8
         Shown::Cut => Run::CUT,
         Shown::Wants => Run::WANTS,
     }
+}
+
+// Whether there is room for a line after so many bytes of the output.
+fn has_room(room: usize, written: usize) -> bool
+    requires { ⌜ written ≤ room ⌝ }
+    ensures { λ r. ⌜ r ≡ hasRoom room written ⌝ }
+{
+    128 <= room - written
 }
 
 impl Run {
@@ -70,7 +78,7 @@ impl Run {
             written: 0,
             state: Run::GOES_ON,
         };
-        while x.state == Run::GOES_ON && 128 <= out.len() - x.written {
+        while x.state == Run::GOES_ON && has_room(out.len(), x.written) {
             let at = x.read;
             x = x.one(&log[at..], out);
         }

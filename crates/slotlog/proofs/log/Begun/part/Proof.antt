@@ -1,6 +1,7 @@
 use mathlib.Core.Path.{sym, ap, _∙_}
 use Prim.Native.Nat.{_≤_}
 use native.Mathlib.Omega.{arith}
+use lib.Seq.{length-take-le}
 use Rattle.slotlog.specs.Log.{begunBy}
 use Rattle.slotlog.proofs.RoomLaws.{in-use, moved-up}
 use borrow.Author.Needs.{needs}
@@ -16,8 +17,7 @@ slice-reshare-prefix-begin c = search needs
 slice-aggregate-begin : tie.Need-slice-aggregate-begin
 slice-aggregate-begin c =
     let l = c .before .least in
-    let a = c .before .before .before .args in
-    sym (in-use (a .have) (l .result) (a .room .now) (l .ensures) .3)
+    sym (length-take-le (l .result) (c .before .before .before .args .room .now) (omega (arith, l .ensures)))
 
 begin-requires : tie.Need-begin-requires
 begin-requires c κs = search needs
@@ -26,8 +26,8 @@ to-start-requires : tie.Need-to-start-requires
 to-start-requires c κs =
     let l = c .before .before .before .least in
     let a = c .before .before .before .before .before .args in
-    let u = in-use (a .have) (l .result) (a .room .now) (l .ensures) in
-    (omega (arith, c .before .begin .ensures .2, u .3), u .2)
+    let h = length-take-le (l .result) (a .room .now) (omega (arith, l .ensures)) in
+    (omega (arith, c .before .begin .ensures .2, h), omega (arith, l .ensures))
 
 same-length : tie.Need-same-length
 same-length c = search needs

@@ -1,3 +1,4 @@
+use mathlib.Core.Path.{sym, _∙_}
 use Prim.Native.Nat.{_-_}
 use native.Mathlib.Omega.{arith}
 use lib.ListN.{length-drop}
@@ -17,8 +18,8 @@ loop-holds : tie.Need-loop-holds Inv-loop μ-loop
 loop-holds c =
     let a = c .before .before .args in begun (a .receiver) (a .log .now) (a .out .now) (c .before .before .pre)
 
-sub-if2 : tie.Need-sub-if2 Inv-loop μ-loop
-sub-if2 c = let i = c .before .before .before .loop .inv in omega (arith, i .room, i .same)
+has-room-requires : tie.Need-has-room-requires Inv-loop μ-loop
+has-room-requires c κs = let i = c .before .before .loop .inv in omega (arith, i .room, i .same)
 
 sub-one : tie.Need-sub-one Inv-loop μ-loop
 sub-one c = let i = c .before .before .before .before .loop .inv in i .inside
@@ -35,7 +36,7 @@ one-requires c κs =
     let log = c .before .before .before .before .before .before .before .before .before .args .log .now in (
       l .inv .reached,
       rw (rest-is (l .x .read) log) (omega (arith, l .inv .inside, length-drop (l .x .read) log)),
-      room-left (l .inv) (c .before .before .if2 .taken),
+      room-left (l .inv) (sym (c .before .before .before .has-room .ensures) ∙ c .before .before .if2 .taken),
       c .before .before .before .before .if1 .taken,
     )
 
@@ -50,16 +51,16 @@ loop-again : tie.Need-loop-again Inv-loop μ-loop
 loop-again c =
     let m = c .before .before .before .before .before .before .before .before .before in
     let a = m .before .before .before .args in
-    let i = m .loop .inv in
+    let h = c .before .before .before .before .before .before .has-room in
     let o = rw (rest-is (m .loop .x .read) (a .log .now)) at (c .before .before .one .ensures) in
-    further i (c .before .before .before .before .before .before .before .if1 .taken) o
-    (c .before .before .before .before .before .if2 .taken) (c .before .before .one .kept .1 .1 .0)
+    further (m .loop .inv) (c .before .before .before .before .before .before .before .if1 .taken) o
+    (sym (h .ensures) ∙ c .before .before .before .before .before .if2 .taken) (c .before .before .one .kept .1 .1 .0)
 
 same-length : tie.Need-same-length Inv-loop μ-loop
 same-length c = c .before .before .before .before .loop .inv .same
 
 returns : tie.Need-returns Inv-loop μ-loop
-returns c = ran-full (c .before .before .before .before .loop .inv) (c .if2 .left)
+returns c = ran-full (c .before .before .before .before .loop .inv) (sym (c .before .has-room .ensures) ∙ c .if2 .left)
 
 same-length-2 : tie.Need-same-length-2 Inv-loop μ-loop
 same-length-2 c = c .before .before .loop .inv .same
@@ -74,7 +75,7 @@ over-spec =
     Inv-loop
     μ-loop
     loop-holds
-    sub-if2
+    has-room-requires
     sub-one
     part-one-start
     part-one-end

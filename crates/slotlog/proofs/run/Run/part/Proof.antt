@@ -1,6 +1,7 @@
 use mathlib.Core.Path.{sym}
 use Prim.Native.Nat.{_≤_}
 use native.Mathlib.Omega.{arith}
+use lib.Seq.{length-take-le}
 use Rattle.slotlog.proofs.RoomLaws.{in-use, moved-up}
 use borrow.Author.Needs.{needs}
 use Rattle.slotlog.proofs.run.Run.part.Statement.{statement}
@@ -15,8 +16,7 @@ slice-reshare-prefix-over c = search needs
 slice-aggregate-over : tie.Need-slice-aggregate-over
 slice-aggregate-over c =
     let l = c .before .least in
-    let a = c .before .before .before .before .args in
-    sym (in-use (a .have) (l .result) (a .room .now) (l .ensures) .3)
+    sym (length-take-le (l .result) (c .before .before .before .before .args .room .now) (omega (arith, l .ensures)))
 
 over-requires : tie.Need-over-requires
 over-requires c κs = search needs
@@ -26,8 +26,8 @@ to-start-requires c κs =
     let o = c .before .before .before .over in
     let l = c .before .before .before .before .before .before .least in
     let a = c .before .before .before .before .before .before .before .before .before .args in
-    let u = in-use (a .have) (l .result) (a .room .now) (l .ensures) in
-    (omega (arith, o .ensures .inside, u .3), u .2)
+    let h = length-take-le (l .result) (a .room .now) (omega (arith, l .ensures)) in
+    (omega (arith, o .ensures .inside, h), omega (arith, l .ensures))
 
 same-length : tie.Need-same-length
 same-length c = search needs
