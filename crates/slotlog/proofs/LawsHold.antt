@@ -1,7 +1,7 @@
 -- The laws hold. Assumes nothing.
 use Rattle.slotlog.specs.Laws.{Laws}
 use Rattle.slotlog.proofs.RunLaws.{next-unique, next-inside, next-forward, next-goes}
-use Rattle.slotlog.proofs.TurnLaws.{come-over, run-full, run-unique}
+use Rattle.slotlog.proofs.TurnLaws.{come-over, run-full, run-unique, part-unique}
 use Rattle.slotlog.proofs.AskedLaws.{replies-asked}
 use Rattle.slotlog.proofs.PrinterLaws.{so-far, printed-so-far, printed-cut, printed-end}
 use Rattle.slotlog.proofs.PrinterLaws.{printed-unit, printed-short}
@@ -11,6 +11,7 @@ laws =
     record {
       next-unique = next-unique;
       run-unique = run-unique;
+      part-unique = part-unique;
       next-inside = next-inside;
       next-forward = next-forward;
       next-goes = next-goes;

@@ -16,6 +16,7 @@ use Rattle.reports.specs.declared.unit.Settings.{Settings}
 use Rattle.receiver.specs.Reached.{receiverAt, Leads, Reached}
 use Rattle.receiver.specs.declared.Receiver.{Receiver}
 use Rattle.slotlog.specs.Print.{linesOf}
+use Rattle.slotlog.specs.Room.{movedUp}
 use Rattle.slotlog.specs.Runs.{Passed, passed, Replies, stateOf, shownLine, Stage, onward, turn, turns, runOver}
 use Rattle.slotlog.specs.Runs.{hasRoom, runAt, Ran, OneAs, One, only, Writes}
 use Rattle.slotlog.specs.declared.replies.NextReply.{NextReply}
@@ -325,3 +326,12 @@ run-unique k a b =
     let x = a .settled (k .settings) (k .heard) (k .leads) in
     let y = b .settled (k .settings) (k .heard) (k .leads) in
     (x .answer ∙ sym (y .answer), x .output ∙ sym (y .output))
+
+pub part-unique : {before : Receiver} (room : List ℕ) (have : ℕ) {old : List ℕ} → Reached before
+    → {r q : Run} {new new′ after after′ : List ℕ}
+    → Ran before (take have room) old r new × (after ≡ movedUp have (r .read) room)
+    → Ran before (take have room) old q new′ × (after′ ≡ movedUp have (q .read) room)
+    → (r ≡ q) × (new ≡ new′) × (after ≡ after′)
+part-unique room have k a b =
+    let u = run-unique k (a .0) (b .0) in
+    (u .0, u .1, a .1 ∙ ap (λ (x : Run). movedUp have (x .read) room) (u .0) ∙ sym (b .1))

@@ -3,7 +3,7 @@
 use mathlib.Core.Path.{_≡_}
 use mathlib.Core.List.{List, _++_}
 use Prim.Native.Nat.{ℕ, _+_, _≤_, _<_}
-use lib.ListN.{length}
+use lib.ListN.{length, take}
 use Rattle.history.specs.Line.{Line, start}
 use Rattle.reports.specs.Lent.{Event}
 use Rattle.reports.specs.declared.unit.Settings.{Settings}
@@ -13,18 +13,24 @@ use Rattle.slotlog.specs.Log.{settingsAt, firstBytes, begunBy, entries}
 use Rattle.slotlog.specs.Replies.{repliesOf, repliesTo}
 use Rattle.slotlog.specs.Asked.{AllAsked}
 use Rattle.slotlog.specs.Print.{unitLine, linesOf, printed}
+use Rattle.slotlog.specs.Room.{movedUp}
 use Rattle.slotlog.specs.Runs.{passed, Replies, runOver, Ran, endLine, unless-cut, stateOf, RepliesAs, Writes}
 use Rattle.slotlog.specs.Printer.{Prints, Printed}
 use Rattle.slotlog.specs.declared.replies.NextReply.{NextReply}
 use Rattle.slotlog.specs.declared.run.Run.{Run}
 
 pub record Laws : Type 0 where
-  -- Two answers of `replies::next` to the same receiver and bytes are equal, and so are two of `Run::over`, and the
-  -- outputs after them.
+  -- Two answers of `replies::next` to the same receiver and bytes are equal; two of `Run::over`, and the outputs after
+  -- them; two of `Run::part`, with the outputs and the rooms after them.
   pub next-unique : {before : Receiver} {rest : List ℕ} → Reached before → {x y : NextReply} → Replies before rest x
       → Replies before rest y → x ≡ y
   pub run-unique : {before : Receiver} {log old : List ℕ} → Reached before → {r q : Run} {new new′ : List ℕ}
       → Ran before log old r new → Ran before log old q new′ → (r ≡ q) × (new ≡ new′)
+  pub part-unique : {before : Receiver} (room : List ℕ) (have : ℕ) {old : List ℕ} → Reached before
+      → {r q : Run} {new new′ after after′ : List ℕ}
+      → Ran before (take have room) old r new × (after ≡ movedUp have (r .read) room)
+      → Ran before (take have room) old q new′ × (after′ ≡ movedUp have (q .read) room)
+      → (r ≡ q) × (new ≡ new′) × (after ≡ after′)
   -- The next record: it takes no more than there is, a byte and more where a run goes on, and whatever follows, the
   -- replies to the whole are its own and then those to what is left.
   pub next-inside : (s : Settings) (ls : Line Event) (rest : List ℕ) → passed s ls rest .took ≤ length rest
