@@ -31,7 +31,7 @@ first ls = record { heard = ls; read = 0; text = []; state = 0 }
 
 module _ (s : Settings) (log : List ℕ) where
   -- what a turn passes
-  abbrev pub ahead : Stage → Passed
+  abbrev ahead : Stage → Passed
   ahead x = passed s (x .heard) (drop (x .read) log)
 
   module _ (room : ℕ) (x : Stage) where
@@ -63,7 +63,7 @@ fewer-when : (b : Bool) {n m : ℕ} → (b ≡ true → n < m) → cond b (suc n
 fewer-when true h = let l = h refl in omega arith
 fewer-when false h = omega arith
 
-pub fewer-left : (s : Settings) (ls : Line Event) (log : List ℕ) (read state : ℕ) → read ≤ length log → state ≡ 0
+fewer-left : (s : Settings) (ls : Line Event) (log : List ℕ) (read state : ℕ) → read ≤ length log → state ≡ 0
     → (let p = passed s ls (drop read log) in
     left-in log (stateOf (p .shown)) (read + p .took) < left-in log state read)
 fewer-left s ls log read state h z =
@@ -85,7 +85,7 @@ module _ (s : Settings) (ls : Line Event) (log : List ℕ) where
     pub states : x .state ≤ 2
     pub leads : {before : Receiver} → Leads s ls before → Leads s (x .heard) (receiverAt s (x .heard))
 
-  pub come-first : Come (first ls)
+  come-first : Come (first ls)
   unfolding linesOf
   come-first =
       record {
@@ -95,7 +95,7 @@ module _ (s : Settings) (ls : Line Event) (log : List ℕ) where
         leads = λ k. record { fit = k .fit; accepted = k .accepted; there = refl };
       }
 
-  pub come-on : (x : Stage) → Come x → x .state ≡ 0 → Come (onward x (ahead s log x))
+  come-on : (x : Stage) → Come x → x .state ≡ 0 → Come (onward x (ahead s log x))
   come-on x c z =
       let rest = drop (x .read) log in
       let p = ahead s log x in

@@ -58,7 +58,7 @@ passing s ls rest (next.Report n) =
 unfoldable pub passed : Settings → Line Event → List ℕ → Passed
 passed s ls rest = passing s ls rest (nextIn rest)
 
--- The answer of `replies::next` in numbers, and what it promises, for all settings and reports that lead to the
+-- The answer of `replies::next` that says so, and what it promises, for all settings and reports that lead to the
 -- receiver.
 abbrev pub replyAt : Settings → Passed → NextReply
 replyAt s p = record { receiver = receiverAt s (p .heard); took = p .took; shown = p .shown }
@@ -100,10 +100,11 @@ onward x p =
       state = stateOf (p .shown);
     }
 
--- A run goes on in state 0, with 128 bytes of the output left for a line.
+-- There is room for a line where 128 bytes of the output are left.
 abbrev pub hasRoom : ℕ → ℕ → Bool
 hasRoom room written = leb 128 (room - written)
 
+-- A run goes on in state 0, where there is room for a line.
 abbrev pub turn : Settings → List ℕ → ℕ → Stage → Stage
 turn s log room x =
     cond (eqb (x .state) 0 && hasRoom room (length (x .text)))
@@ -120,7 +121,7 @@ abbrev pub runOver : Settings → Line Event → List ℕ → ℕ → Stage
 runOver s ls log room =
     turns (suc (length log)) s log room (record { heard = ls; read = 0; text = []; state = 0 })
 
--- The answer of `Run::over` in numbers, and the output after it.
+-- The answer of `Run::over` that says how far it came, and the output after it.
 abbrev pub runAt : Settings → Stage → Run
 runAt s x =
     record { receiver = receiverAt s (x .heard); read = x .read; written = length (x .text); state = x .state }
@@ -137,7 +138,8 @@ pub record Ran (before : Receiver) (log old : List ℕ) (r : Run) (new : List �
   pub inside : r .read ≤ length log
   pub room : r .written ≤ length new
 
--- One record of it: what follows `x` for all settings and reports that lead to its receiver.
+-- One record of it: what follows `x`, for all settings and reports that lead to its receiver; a line has at most 128
+-- bytes.
 pub record OneAs (s : Settings) (p : Passed) (x : Run) (old : List ℕ) (r : Run) (new : List ℕ) : Type 0 where
   pub receiver : r .receiver ≡ receiverAt s (p .heard)
   pub read : r .read ≡ x .read + p .took
