@@ -11,9 +11,8 @@ ghost use Rattle.receiver.specs.Reached.{Reached};
 use libc::STDIN_FILENO;
 use libc::STDOUT_FILENO;
 use receiver::Receiver;
+use slotlog::log::Begun;
 use slotlog::log::FIRST;
-use slotlog::log::begin;
-use slotlog::room::to_start;
 use slotlog::run::Run;
 
 // The receiver, how many bytes at the start of the log's room are still to be read, and whether it goes on.
@@ -112,15 +111,13 @@ fn start(log: &mut [u8])
     requires { ⌜ 16 ≤ length (now log) ⌝ }
 {
     let got = head(log);
-    let begun = begin(&log[..got]);
+    let begun = Begun::part(log, got);
     if begun.fault != 0 {
         io::write_all(STDOUT_FILENO, b"unit\n");
         return;
     }
     let receiver = begun.receiver;
-    let took = begun.took;
-    to_start(log, took, got);
-    print(receiver, log, got - took);
+    print(receiver, log, got - begun.took);
 }
 
 fn main() {

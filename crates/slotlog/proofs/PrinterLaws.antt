@@ -6,24 +6,26 @@ use Prim.Native.Nat.{ℕ, _+_, _≤_}
 use native.Mathlib.Omega.{arith}
 use lib.Dec.{eqb, leb}
 use lib.ListN.{length, take, drop, getD, length-append, List·getD-append}
-use lib.Seq.{drop-append-le}
+use lib.Seq.{drop-append-le, take-at}
 use borrow.Author.Tests.{le-leb}
 use Rattle.history.specs.Line.{start}
 use Rattle.reports.specs.Units.{settingsFit}
 use Rattle.reports.specs.declared.unit.Settings.{Settings}
 use Rattle.receiver.specs.View.{newReceiver}
-use Rattle.receiver.specs.Reached.{Leads}
+use Rattle.receiver.specs.Reached.{receiverAt, Leads}
 use Rattle.receiver.specs.declared.Receiver.{Receiver}
 use Rattle.receiver.specs.declared.Fresh.{Fresh}
 use Rattle.receiver.proofs.HearLaws.{fresh-leads}
 use Rattle.slotlog.specs.Log.{settingsAt, isFirst, isUnit, firstBytes, begunAs, begunBy, entries}
 use Rattle.slotlog.specs.declared.log.Begun.{Begun}
-use Rattle.slotlog.specs.Replies.{LogReply, toCut, repliesOf, repliesTo}
+use Rattle.slotlog.specs.declared.run.Run.{Run}
+use Rattle.slotlog.specs.Replies.{LogReply, toCut, repliesOf}
 use Rattle.slotlog.specs.Print.{unitLine, cutLine, linesOf, printed}
-use Rattle.slotlog.specs.Runs.{unless-cut, Goes, endLine}
-use Rattle.slotlog.specs.Printer.{Prints, first, more, run}
+use Rattle.slotlog.specs.Runs.{Stage, runOver, Ran, unless-cut, endLine}
+use Rattle.slotlog.specs.Printer.{Prints, first, more, run, Printed}
 use Rattle.slotlog.proofs.LogLaws.{and-first, first-long}
 use Rattle.slotlog.proofs.RunLaws.{goes-none, goes-more, goes-both, lines-both}
+use Rattle.slotlog.proofs.TurnLaws.{Come, come-over}
 
 -- ---- the first record, whatever follows
 
@@ -84,15 +86,35 @@ unit-same w z h =
 
 -- ---- what was printed, and what is to come
 
--- `rest` is what followed the first record.
-pub record Printed (input left text : List ℕ) (r : Receiver) (state : ℕ) : Type 0 where
-  pub settings : Settings
-  pub rest : List ℕ
-  pub said : List LogReply
-  pub lines : text ≡ linesOf said
-  pub unit : (z : List ℕ) → isUnit (input ++ z) ≡ true
-  pub replies : (z : List ℕ) → repliesTo (input ++ z) ≡ repliesOf settings start (entries (rest ++ z))
-  pub goes : Goes settings start rest said left r state
+-- one run more, from the stage that it came to
+run-then : {input left text : List ℕ} {r : Receiver} {state : ℕ} (f : Printed input left text r state)
+    → (state ≡ 2 → ⊥)
+    → (u : Stage) → Come (f .settings) (f .heard) left u
+    → Printed input (drop (u .read) left) (text ++ u .text) (receiverAt (f .settings) (u .heard)) (u .state)
+run-then f n u c =
+    let w = c .writes in
+    record {
+      settings = f .settings;
+      heard = u .heard;
+      rest = f .rest;
+      said = f .said ++ w .said;
+      lines = ap₂ _++_ (f .lines) (w .lines) ∙ sym (lines-both (f .said) (w .said));
+      unit = f .unit;
+      replies = f .replies;
+      leads = c .leads (f .leads);
+      goes = goes-both (f .said) (w .said) (f .goes) n (w .goes);
+    }
+
+ran-then : {input left text : List ℕ} {r : Receiver} {state : ℕ} → Printed input left text r state → (state ≡ 2 → ⊥)
+    → {old new : List ℕ} {x : Run} → Ran r left old x new
+    → Printed input (drop (x .read) left) (text ++ take (x .written) new) (x .receiver) (x .state)
+ran-then {left = left} f e {old} {new} g =
+    let s = f .settings in
+    let u = runOver s (f .heard) left (length old) in
+    let a = g .settled s (f .heard) (f .leads) in
+    let n = length (u .text) in
+    let t : take n new ≡ u .text = ap (take n) (a .output) ∙ take-at (u .text) (drop n old) n refl in
+    rw (a .answer, t) (run-then f e u (come-over s (f .heard) left (length old)))
 
 pub so-far : {input left text : List ℕ} {r : Receiver} {state : ℕ} → Prints input left text r state
     → Printed input left text r state
@@ -104,43 +126,36 @@ so-far (first input b e z) =
     first-long input (and-first (isFirst input) (settingsFit (s .individual) (s .group) (s .mni)) (u .0)) in
     record {
       settings = s;
+      heard = start;
       rest = drop (firstBytes input) input;
       said = [];
       lines = refl;
       unit = λ more. unit-same input more h .0 ∙ u .0;
       replies = λ more. rw (unit-same input more h .1, drop-append-le (firstBytes input) input more h) refl;
-      goes = rw (e, u .1) (goes-none s start (drop (firstBytes input) input) (u .2));
+      leads = rw e (u .2);
+      goes = rw (e, u .1) (goes-none s start (drop (firstBytes input) input));
     }
 so-far (more {input} {left} {text} p n part) =
     let f = so-far p in
     record {
       settings = f .settings;
+      heard = f .heard;
       rest = f .rest ++ part;
       said = f .said;
       lines = f .lines;
       unit = λ z. rw (append-assoc input part z) (f .unit (part ++ z));
       replies = λ z. rw (append-assoc input part z, append-assoc (f .rest) part z) (f .replies (part ++ z));
+      leads = f .leads;
       goes = goes-more (f .said) (f .goes) n part;
     }
-so-far (run p n old new x g) =
-    let f = so-far p in
-    let w = g .writes (f .settings) (f .goes .heard) (f .goes .leads) in
-    record {
-      settings = f .settings;
-      rest = f .rest;
-      said = f .said ++ w .said;
-      lines = ap₂ _++_ (f .lines) (w .lines) ∙ sym (lines-both (f .said) (w .said));
-      unit = f .unit;
-      replies = f .replies;
-      goes = goes-both (f .said) (w .said) (f .goes) n (w .goes);
-    }
+so-far (run p n old new x g) = ran-then (so-far p) n g
 
 pub printed-so-far : {input left text : List ℕ} {r : Receiver} {state : ℕ} (f : Printed input left text r state)
     (z : List ℕ)
     → printed (input ++ z)
-    ≡ text ++ linesOf (unless-cut state (repliesOf (f .settings) (f .goes .heard) (entries (left ++ z))))
+    ≡ text ++ linesOf (unless-cut state (repliesOf (f .settings) (f .heard) (entries (left ++ z))))
 printed-so-far {left = left} {state = state} f z =
-    let rs = unless-cut state (repliesOf (f .settings) (f .goes .heard) (entries (left ++ z))) in
+    let rs = unless-cut state (repliesOf (f .settings) (f .heard) (entries (left ++ z))) in
     rw (f .unit z, f .replies z, f .goes .replies z)
     (lines-both (f .said) rs ∙ ap (λ (t : List ℕ). t ++ linesOf rs) (sym (f .lines)))
 
@@ -160,7 +175,7 @@ pub printed-end : {input left text : List ℕ} {r : Receiver} → Prints input l
     → printed input ≡ text ++ endLine left
 printed-end {input} {left} {text} p =
     let f = so-far p in
-    let s = repliesOf (f .settings) (f .goes .heard) in
+    let s = repliesOf (f .settings) (f .heard) in
     ap printed (sym (append-nil input)) ∙ printed-so-far f []
     ∙ ap (λ (l : List ℕ). text ++ linesOf (s (entries l))) (append-nil left)
     ∙ ap (λ (rs : List LogReply). text ++ linesOf rs) (f .goes .ends refl)

@@ -1,12 +1,16 @@
 -- Bytes moved to the start, one by one. Assumes nothing.
 use mathlib.Core.Path.{_≡_, refl, sym, ap, ap₂, _∙_}
+use mathlib.Core.Bool.{Bool, true, false}
 use mathlib.Core.List.{List, [], _∷_, _++_}
-use Prim.Native.Nat.{ℕ, suc, _+_, _-_, _≤_, _<_}
+use Prim.Native.Nat.{ℕ, suc, _+_, _-_, _≤_, _<_, min}
 use native.Mathlib.Omega.{arith}
 use native.Mathlib.Numerals.{add-one}
+use lib.Dec.{leb}
 use lib.ListN.{length, take, drop, set, getD, length-set, length-drop, take-append-drop}
+use borrow.Author.Tests.{leb-true, leb-false}
 use Rattle.bits.proofs.Numbers.{drop-of-take}
-use lib.Seq.{take-at, length-take-le, take-suc, drop-drop, getD-drop, take-set-le, drop-set-lt, getD-set-same}
+use Rattle.slotlog.specs.Room.{leftOf, movedUp}
+use lib.Seq.{take-all, length-take-le, take-suc, drop-drop, getD-drop, take-set-le, drop-set-lt, getD-set-same}
 
 -- as far as place i
 pub record Moved (old : List ℕ) (from i : ℕ) (new : List ℕ) : Type 0 where
@@ -58,14 +62,34 @@ pub all-moved : (old : List ℕ) (from to : ℕ) {new : List ℕ} → Moved old 
     → new ≡ take (to - from) (drop from old) ++ drop (to - from) old
 all-moved old from to {new} m = sym (take-append-drop (to - from) new) ∙ ap₂ _++_ (m .start) (m .rest)
 
--- what is left of the first bytes stands at the start
-pub left-at-start : (old : List ℕ) (from to : ℕ) {new : List ℕ} → from ≤ to → to ≤ length old
-    → new ≡ take (to - from) (drop from old) ++ drop (to - from) old
-    → take (to - from) new ≡ drop from (take to old)
-left-at-start old from to {new} h l e =
-    let n : to ≡ from + (to - from) = omega arith in
-    let k = to - from in
-    rw e
-    (take-at (take k (drop from old)) (drop k old) k
-    (length-take-le k (drop from old) (omega (arith, length-drop from old))))
-    ∙ sym (drop-of-take from k old) ∙ ap (λ (j : ℕ). drop from (take j old)) (sym n)
+-- ---- what is left of the bytes in use
+
+-- no more than all of them
+take-in-use : (have : ℕ) (l : List ℕ) → take (min have (length l)) l ≡ take have l
+take-in-use have l = when (leb have (length l)) refl
+  where
+    when : (b : Bool) → leb have (length l) ≡ b → take (min have (length l)) l ≡ take have l
+    when true e =
+        let n : min have (length l) ≡ have = omega (arith, leb-true have (length l) e) in
+        ap (λ (k : ℕ). take k l) n
+    when false e =
+        let h = leb-false have (length l) e in
+        take-all (min have (length l)) l (omega arith) ∙ sym (take-all have l (omega arith))
+
+pub in-use : (have n : ℕ) (l : List ℕ) → n ≡ min have (length l) → (take n l ≡ take have l) × (n ≤ have)
+    × (n ≤ length l) × (length (take n l) ≡ n)
+in-use have n l e =
+    (rw e (take-in-use have l), omega arith, omega arith, length-take-le n l (omega arith))
+
+pub moved-up : (old : List ℕ) (have read n : ℕ) {new : List ℕ} → n ≡ min have (length old) → read ≤ n
+    → new ≡ take (n - read) (drop read old) ++ drop (n - read) old
+    → new ≡ movedUp have read old
+moved-up old have read n {new} m h e =
+    let k = n - read in
+    let j : n ≡ read + k = omega arith in
+    let l : leftOf have read old ≡ take k (drop read old) =
+    ap (drop read) (sym (in-use have n old m .0)) ∙ ap (λ (i : ℕ). drop read (take i old)) j
+    ∙ drop-of-take read k old in
+    let c : length (take k (drop read old)) ≡ k =
+    length-take-le k (drop read old) (omega (arith, length-drop read old)) in
+    e ∙ rw (l, c) refl

@@ -1,9 +1,12 @@
 // The records of a slot log.
 ghost use mathlib.Core.Path.{_≡_};
 ghost use Prim.Native.Nat.{_≤_};
-ghost use lib.ListN.{length};
+ghost use lib.ListN.{length, take};
+ghost use Rattle.slotlog.specs.Room.{movedUp};
 ghost use Rattle.slotlog.specs.Log.{bodyOf, isReport, wholeOf, nextIn, isFirst, begunBy};
 ghost use Rattle.receiver.specs.Reached.{Reached};
+use crate::room::to_start;
+use bits::least;
 use blocks::sizes::SchF;
 use blocks::sizes::SchH;
 use blocks::sizes::SchS;
@@ -130,7 +133,7 @@ fn is_first(log: &[u8]) -> bool
 
 // The receiver with the settings that a log starts with, and the bytes that its first record takes; fault 13 where it
 // starts with none, or with settings of 2^24 or more.
-pub fn begin(log: &[u8]) -> Begun
+fn begin(log: &[u8]) -> Begun
     ensures { λ r. ⌜ (r ≡ begunBy (now (log .entry))) × Reached (r .receiver)
         × (r .took ≤ length (now (log .entry))) ⌝ }
 {
@@ -152,5 +155,20 @@ pub fn begin(log: &[u8]) -> Begun
         fault: 13,
         took: 0,
         receiver,
+    }
+}
+
+impl Begun {
+    // How a log starts of which the first `have` bytes of a room are there, all of it where it has fewer; what is left
+    // of them after the first record is moved to the room's start.
+    pub fn part(room: &mut [u8], have: usize) -> Begun
+        ensures { λ r. ⌜ (r ≡ begunBy (take have (now (room .entry)))) × Reached (r .receiver) × (r .took ≤ have)
+            × (now (room .exit) ≡ movedUp have (r .took) (now (room .entry))) ⌝ }
+    {
+        let n = least(have, room.len());
+        let b = begin(&room[..n]);
+        let took = b.took;
+        to_start(room, took, n);
+        b
     }
 }

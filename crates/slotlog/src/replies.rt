@@ -13,7 +13,7 @@ use receiver::answer::Answer;
 
 // What is shown of a reply: of a report its frame, its slot and the receiver's answer; another record; one that is cut.
 // Where no whole record is there, more of the log is wanted.
-pub enum Shown {
+pub(crate) enum Shown {
     Report(u8, u8, Answer),
     Other,
     Cut,
@@ -21,7 +21,7 @@ pub enum Shown {
 }
 
 // The receiver after the next record, the bytes that the record takes, and what is shown of its reply.
-pub struct NextReply {
+pub(crate) struct NextReply {
     pub receiver: Receiver,
     pub took: usize,
     pub shown: Shown,
@@ -54,7 +54,7 @@ fn heard(receiver: Receiver, rest: &[u8], n: usize) -> NextReply
 }
 
 // The next record of the rest, and the reply to it.
-pub fn next(receiver: Receiver, rest: &[u8]) -> NextReply
+pub(crate) fn next(receiver: Receiver, rest: &[u8]) -> NextReply
     requires { ⌜ Reached receiver ⌝ }
     ensures { λ r. ⌜ Replies receiver (now (rest .entry)) r ⌝ }
 {

@@ -1,13 +1,15 @@
 // A run over a log, as much of it as is there.
 ghost use mathlib.Core.Path.{_≡_};
-ghost use Prim.Native.Nat.{_+_, _-_, _≤_};
-ghost use lib.ListN.{length, take, drop};
+ghost use Prim.Native.Nat.{_+_, _≤_};
+ghost use lib.ListN.{length, take};
 ghost use Rattle.receiver.specs.Reached.{Reached};
-ghost use Rattle.slotlog.specs.Runs.{stateOf, One, Ran};
+ghost use Rattle.slotlog.specs.Room.{movedUp};
+ghost use Rattle.slotlog.specs.Runs.{stateOf, hasRoom, One, Ran};
 use crate::print::shown_line;
 use crate::replies::Shown;
 use crate::replies::next;
 use crate::room::to_start;
+use bits::least;
 use receiver::Receiver;
 
 // The receiver now, how many bytes of the log were read and how many of the output were written, and a state.
@@ -28,6 +30,14 @@ fn state_of(shown: Shown) -> u8
         Shown::Cut => Run::CUT,
         Shown::Wants => Run::WANTS,
     }
+}
+
+// Whether there is room for a line after so many bytes of the output.
+fn has_room(room: usize, written: usize) -> bool
+    requires { ⌜ written ≤ room ⌝ }
+    ensures { λ r. ⌜ r ≡ hasRoom room written ⌝ }
+{
+    128 <= room - written
 }
 
 impl Run {
@@ -58,7 +68,7 @@ impl Run {
     }
 
     // Reads what can be read of `log` with the room that there is in `out`.
-    pub fn over(receiver: Receiver, log: &[u8], out: &mut [u8]) -> Run
+    fn over(receiver: Receiver, log: &[u8], out: &mut [u8]) -> Run
         requires { ⌜ Reached receiver ⌝ }
         ensures { λ r. ⌜ Ran receiver (now (log .entry)) (now (out .entry)) r (now (out .exit)) ⌝ }
     {
@@ -68,23 +78,24 @@ impl Run {
             written: 0,
             state: Run::GOES_ON,
         };
-        while x.state == Run::GOES_ON && 128 <= out.len() - x.written {
+        while x.state == Run::GOES_ON && has_room(out.len(), x.written) {
             let at = x.read;
             x = x.one(&log[at..], out);
         }
         x
     }
 
-    // Reads what can be read of the first `have` bytes of a room, and moves what is left of them to its start.
+    // Reads what can be read of the first `have` bytes of a room, all of it where it has fewer, and moves what is left
+    // of them to its start.
     pub fn part(receiver: Receiver, room: &mut [u8], have: usize, out: &mut [u8]) -> Run
-        requires { ⌜ Reached receiver × (have ≤ length (now room)) ⌝ }
+        requires { ⌜ Reached receiver ⌝ }
         ensures { λ r. ⌜ Ran receiver (take have (now (room .entry))) (now (out .entry)) r (now (out .exit))
-            × (r .read ≤ have)
-            × (take (have - r .read) (now (room .exit)) ≡ drop (r .read) (take have (now (room .entry)))) ⌝ }
+            × (r .read ≤ have) × (now (room .exit) ≡ movedUp have (r .read) (now (room .entry))) ⌝ }
     {
-        let r = Run::over(receiver, &room[..have], out);
+        let n = least(have, room.len());
+        let r = Run::over(receiver, &room[..n], out);
         let read = r.read;
-        to_start(room, read, have);
+        to_start(room, read, n);
         r
     }
 }

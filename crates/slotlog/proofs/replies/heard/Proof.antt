@@ -1,5 +1,4 @@
 use Prim.Native.Nat.{_-_}
-use native.Mathlib.Omega.{arith}
 use Rattle.slotlog.proofs.LogLaws.{report-at, found}
 use Rattle.slotlog.proofs.RunLaws.{report-lent, replies-report}
 use borrow.Author.Needs.{needs}

@@ -1,5 +1,7 @@
 use mathlib.Core.Path.{sym, _∙_}
-use Rattle.slotlog.proofs.RunLaws.{replies-other, replies-cut, replies-part, replies-end}
+use Rattle.slotlog.specs.declared.log.Next.the-variants.{Other, Cut, Part, End}
+use Rattle.slotlog.specs.declared.replies.Shown.the-variants as shown
+use Rattle.slotlog.proofs.RunLaws.{passed-at, replies-same}
 use borrow.Author.Needs.{needs}
 use Rattle.slotlog.proofs.replies.next.Statement.{statement}
 use Rattle.slotlog.proofs.replies.next.Tie as tie
@@ -26,8 +28,9 @@ returns-2 : tie.Need-returns-2
 returns-2 c =
     let a = c .before .before .before .before .before .args in
     let n = c .before .n2 .given in
-    replies-other (a .receiver) (a .rest .now) (n .0 .0) (c .before .before .before .before .before .pre)
-    (sym (c .before .before .before .read .ensures) ∙ n .1)
+    let e = sym (c .before .before .before .read .ensures) ∙ n .1 in
+    replies-same (a .receiver) (a .rest .now) (n .0 .0) shown.Other (c .before .before .before .before .before .pre)
+    (λ s ls. passed-at s ls (a .rest .now) (Other (n .0 .0)) e)
 
 enum-told : tie.Need-enum-told
 enum-told c = search needs
@@ -35,8 +38,9 @@ enum-told c = search needs
 returns-3 : tie.Need-returns-3
 returns-3 c =
     let a = c .before .before .before .before .args in
-    replies-cut (a .receiver) (a .rest .now) (c .before .before .before .before .pre)
-    (sym (c .before .before .read .ensures) ∙ c .enum-told .given .1)
+    let e = sym (c .before .before .read .ensures) ∙ c .enum-told .given .1 in
+    replies-same (a .receiver) (a .rest .now) 0 shown.Cut (c .before .before .before .before .pre)
+    (λ s ls. passed-at s ls (a .rest .now) Cut e)
 
 enum-told-2 : tie.Need-enum-told-2
 enum-told-2 c = search needs
@@ -47,14 +51,16 @@ enum-told-3 c = search needs
 returns-4 : tie.Need-returns-4
 returns-4 c =
     let a = c .before .before .before .before .args in
-    replies-part (a .receiver) (a .rest .now) (c .before .before .before .before .pre)
-    (sym (c .before .before .read .ensures) ∙ c .enum-told2 .given .1)
+    let e = sym (c .before .before .read .ensures) ∙ c .enum-told2 .given .1 in
+    replies-same (a .receiver) (a .rest .now) 0 shown.Wants (c .before .before .before .before .pre)
+    (λ s ls. passed-at s ls (a .rest .now) Part e)
 
 returns-5 : tie.Need-returns-5
 returns-5 c =
     let a = c .before .before .before .before .args in
-    replies-end (a .receiver) (a .rest .now) (c .before .before .before .before .pre)
-    (sym (c .before .before .read .ensures) ∙ c .enum-told3 .given .1)
+    let e = sym (c .before .before .read .ensures) ∙ c .enum-told3 .given .1 in
+    replies-same (a .receiver) (a .rest .now) 0 shown.Wants (c .before .before .before .before .pre)
+    (λ s ls. passed-at s ls (a .rest .now) End e)
 
 pub next-spec : {M : Type 1} → statement M
 next-spec =

@@ -1,5 +1,6 @@
 use native.Mathlib.Omega.{arith}
-use Rattle.slotlog.proofs.RunLaws.{one}
+use Rattle.slotlog.proofs.RunLaws.{replies-inside}
+use Rattle.slotlog.proofs.TurnLaws.{one}
 use borrow.Author.Needs.{needs}
 use Rattle.slotlog.proofs.run.Run.one.Statement.{statement}
 use Rattle.slotlog.proofs.run.Run.one.Tie as tie
@@ -9,8 +10,8 @@ next-requires c κs = c .before .before .pre .0
 
 add-t7 : tie.Need-add-t7
 add-t7 c =
-    omega
-    (arith, c .before .before .before .before .before .before .pre .1, c .before .before .before .next .ensures .inside)
+    let p = c .before .before .before .before .before .before .pre in
+    omega (arith, p .1, replies-inside (p .0) (c .before .before .before .next .ensures))
 
 shown-line-requires : tie.Need-shown-line-requires
 shown-line-requires c κs = c .before .before .before .before .before .before .before .pre .2
