@@ -5,16 +5,16 @@ use mathlib.Core.List.{List, [], _∷_, _++_}
 use Prim.Native.Nat.{ℕ, zero, suc, _+_, _-_, _*_, _/_, _%_, _^_, _≤_, _<_}
 use native.Mathlib.Nat.{suc-add, zero-add, add-assoc, mul-assoc, add-mul, pow-suc, mod-eq-of-lt, one-mul}
 use native.Mathlib.Nat.{lt-of-lt-of-le, mul-add-div-right, mul-add-mod-self-right, mod-one, add-comm, mul-comm}
-use native.Mathlib.Nat.{min-le-left, zero-div, zero-mul, mod-lt}
+use native.Mathlib.Nat.{min-le-left, zero-div, zero-mul, mod-lt, mul-lt-mul-of-pos-right}
 use native.Mathlib.Numerals.{one-add}
 use native.Mathlib.Omega.{arith}
 use lib.Dec.{eqb}
 use borrow.Author.Tests.{eqb-true, eqb-false}
 use lib.ListN.{length, take, drop, replicate, length-append, length-take, length-drop, take-append-drop}
 use lib.Arith.{digits-lt, lt-one}
-use lib.Bits.{bitAnd, bitOr, and-mask, or-shifted}
+use lib.Bits.{bitAnd, bitOr, and-mask, and-block, or-block, or-shifted, or-shifted-r, or-zero-r}
 use lib.Seq.{take-take, take-nil, take-add, drop-drop}
-use lib.Pow.{shl-exact, pow-pos, pow-add, pow-mono, split, high, low, mod-pow-add, shr-shr, shr-lt}
+use lib.Pow.{shl-exact, pow-pos, pow-add, pow-mono, split, high, low, mod-pow-add, shr-shr, shr-lt, ones-lt, high-ones}
 use Rattle.bits.specs.Bits.{bit, testBit, num, bitsN}
 
 zero-mul-add : (m n : ℕ) → 0 * m + n ≡ n
@@ -196,33 +196,54 @@ shl-six : (v a w : ℕ) → v < 2 ^ w → a + w ≤ 64 → v * 2 ^ bitAnd a 63 %
 shl-six v a zero h l = rw (lt-one h, zero-mul (2 ^ bitAnd a 63), zero-mul (2 ^ a)) refl
 shl-six v a (suc w) h l = rw (low-six a (omega arith)) (shl-exact (suc w) a 64 h (omega arith))
 
-pub cut-code : (x a w : ℕ) → a + w ≤ 64 → w ≤ 56
-    → bitAnd (x / 2 ^ bitAnd a 63) (1 * 2 ^ w % 2 ^ 64 - 1) ≡ x / 2 ^ a % 2 ^ w
-cut-code x a w h l = rw (ones-of w (omega arith), and-mask (x / 2 ^ bitAnd a 63) w) (shr-six x a w h)
-
-pub cut-split : (x a w : ℕ) → x ≡ x / 2 ^ (w + a) * 2 ^ (w + a) + (x / 2 ^ a % 2 ^ w * 2 ^ a + x % 2 ^ a)
-cut-split x a w = sym (split x (w + a)) ∙ ap (λ (y : ℕ). x / 2 ^ (w + a) * 2 ^ (w + a) + y) (mod-pow-add x w a)
-
-pub pasted-lt : (n x a w v : ℕ) → x < 2 ^ n → w + a ≤ n → v < 2 ^ w
-    → x / 2 ^ (w + a) * 2 ^ (w + a) + (v * 2 ^ a + x % 2 ^ a) < 2 ^ n
-pasted-lt n x a w v hx l hv =
-    let e : n - (w + a) + (w + a) ≡ n = omega arith in
-    let inner : v * 2 ^ a + x % 2 ^ a < 2 ^ (w + a) = rw (pow-add 2 w a) (digits-lt hv (mod-lt x (pow-pos a))) in
-    let outer : x / 2 ^ (w + a) < 2 ^ (n - (w + a)) = shr-lt (n - (w + a)) (w + a) (rw e hx) in
-    let all : 2 ^ n ≡ 2 ^ (n - (w + a)) * 2 ^ (w + a) =
-    ap (λ (k : ℕ). 2 ^ k) (sym e) ∙ pow-add 2 (n - (w + a)) (w + a) in
-    rw all (digits-lt outer inner)
+pub cut-code : (x a w : ℕ) → a + w ≤ 64 → bitAnd (x / 2 ^ bitAnd a 63) (2 ^ w - 1) ≡ x / 2 ^ a % 2 ^ w
+cut-code x a w h = rw (and-mask (x / 2 ^ bitAnd a 63) w) (shr-six x a w h)
 
 module _ (x a w v : ℕ) (h : a + w ≤ 64) (hv : v < 2 ^ w) (hx : x < 2 ^ 64) where
-  old-lt : x / 2 ^ a % 2 ^ w < 2 ^ w
-  old-lt = mod-lt (x / 2 ^ a) (pow-pos w)
+  -- the bits above, and how many there are
+  abbrev t : ℕ
+  t = 64 - (w + a)
 
-  pub paste-room : x / 2 ^ a % 2 ^ w * 2 ^ bitAnd a 63 % 2 ^ 64 ≤ x
-  paste-room = rw (shl-six (x / 2 ^ a % 2 ^ w) a w old-lt h) (omega (arith, cut-split x a w))
+  abbrev above : ℕ
+  above = x / 2 ^ (w + a)
 
-  pub paste-code : x - x / 2 ^ a % 2 ^ w * 2 ^ bitAnd a 63 % 2 ^ 64 + v * 2 ^ bitAnd a 63 % 2 ^ 64
-      ≡ x / 2 ^ (w + a) * 2 ^ (w + a) + (v * 2 ^ a + x % 2 ^ a)
-  paste-code = rw (shl-six (x / 2 ^ a % 2 ^ w) a w old-lt h, shl-six v a w hv h) (omega (arith, cut-split x a w))
+  width : t + (w + a) ≡ 64
+  width = omega arith
 
-  pub paste-fits : x - x / 2 ^ a % 2 ^ w * 2 ^ bitAnd a 63 % 2 ^ 64 + v * 2 ^ bitAnd a 63 % 2 ^ 64 < 2 ^ 64
-  paste-fits = rw paste-code (pasted-lt 64 x a w v hx (omega arith) hv)
+  above-lt : above < 2 ^ t
+  above-lt = shr-lt t (w + a) (rw width hx)
+
+  after-le : 2 ^ a ≤ 2 ^ (w + a)
+  after-le = pow-mono {j = w + a} (omega arith)
+
+  after-lt : x % 2 ^ a < 2 ^ a
+  after-lt = mod-lt x (pow-pos a)
+
+  -- the mask of what stays: the bits above, and the a bits that follow
+  stays : 2 ^ 64 - 1 - (2 ^ w - 1) * 2 ^ bitAnd a 63 % 2 ^ 64 ≡ (2 ^ t - 1) * 2 ^ (w + a) + (2 ^ a - 1)
+  stays =
+      let q : 2 ^ (t + (w + a)) ≡ 2 ^ 64 = ap (λ (k : ℕ). 2 ^ k) width in
+      let p : 2 ^ (w + a) ≤ 2 ^ 64 = pow-mono {j = 64} (omega arith) in
+      rw (shl-six (2 ^ w - 1) a w (ones-lt w) h, ← high-ones w a, ← high-ones t (w + a), q)
+      (omega (arith, pow-pos a, after-le))
+
+  kept : bitAnd x ((2 ^ t - 1) * 2 ^ (w + a) + (2 ^ a - 1)) ≡ above * 2 ^ (w + a) + x % 2 ^ a
+  kept =
+      ap (λ (y : ℕ). bitAnd y ((2 ^ t - 1) * 2 ^ (w + a) + (2 ^ a - 1))) (sym (split x (w + a)))
+      ∙ and-block (w + a) above (2 ^ t - 1) (x % 2 ^ (w + a)) (2 ^ a - 1) (mod-lt x (pow-pos (w + a)))
+      (lt-of-lt-of-le (ones-lt a) after-le)
+      ∙ ap₂ (λ (y z : ℕ). y * 2 ^ (w + a) + z) (and-mask above t ∙ mod-eq-of-lt above-lt)
+      (and-mask (x % 2 ^ (w + a)) a ∙ rw (mod-pow-add x w a) (low (x / 2 ^ a % 2 ^ w) a after-lt))
+
+  -- v goes where nothing stays
+  placed : bitOr (above * 2 ^ (w + a) + x % 2 ^ a) (v * 2 ^ a) ≡ above * 2 ^ (w + a) + (v * 2 ^ a + x % 2 ^ a)
+  placed =
+      let z : v * 2 ^ a ≡ 0 * 2 ^ (w + a) + v * 2 ^ a = sym (zero-mul-add (2 ^ (w + a)) (v * 2 ^ a)) in
+      let s : v * 2 ^ a < 2 ^ (w + a) = rw (pow-add 2 w a) (mul-lt-mul-of-pos-right hv (pow-pos a)) in
+      ap (bitOr (above * 2 ^ (w + a) + x % 2 ^ a)) z
+      ∙ or-block (w + a) above 0 (x % 2 ^ a) (v * 2 ^ a) (lt-of-lt-of-le after-lt after-le) s
+      ∙ ap₂ (λ (y z : ℕ). y * 2 ^ (w + a) + z) (or-zero-r above) (or-shifted-r v a (x % 2 ^ a) after-lt)
+
+  pub paste-code : bitOr (bitAnd x (2 ^ 64 - 1 - (2 ^ w - 1) * 2 ^ bitAnd a 63 % 2 ^ 64)) (v * 2 ^ bitAnd a 63 % 2 ^ 64)
+      ≡ above * 2 ^ (w + a) + (v * 2 ^ a + x % 2 ^ a)
+  paste-code = rw (stays, kept, shl-six v a w hv h) placed

@@ -9,7 +9,7 @@ use lib.ListN.{length, take, drop, length-append, length-take, length-drop, take
 use lib.Seq.{take-append-add, drop-append-add, take-append-le, drop-append-le, drop-length, take-at, drop-at, drop-drop}
 use lib.Seq.{take-add, slice, length-take-le, length-slice, take-take}
 use Rattle.bits.specs.Bits.{over, num, bitsN, bitsOf, bytesN, AllBytes}
-use Rattle.bits.proofs.Numbers.{bitsN-is, take-of-drop}
+use Rattle.bits.proofs.Numbers.{bitsN-is}
 use Rattle.bits.proofs.Bytes.{length-bitsOf, bitsOf-append, bitsOf-take, bitsOf-drop, bitsOf-bytesN, bitsOf-inj}
 use Rattle.bits.proofs.Bytes.{bytesN-bytes, bytes-append, bytes-drop}
 

@@ -28,6 +28,9 @@ pub fn least(a: usize, b: usize) -> usize
     if a < b { a } else { b }
 }
 
+// The most bits of a field: eight bytes hold it wherever it starts.
+const FIELD: usize = 56;
+
 // Whether n bits are among those of so many bytes.
 pub fn bits_lent(n: usize, bytes: usize) -> bool
     ensures { λ r. ⌜ r ≡ leb n (8 * bytes) ⌝ }
@@ -70,12 +73,20 @@ fn store(out: &mut [u8], first: usize, last: usize, v: u64)
     }
 }
 
+// The mask of the low `w` bits.
+fn mask(w: usize) -> u64
+    requires { ⌜ w ≤ 56 ⌝ }
+    ensures { λ r. ⌜ r ≡ 2 ^ w - 1 ⌝ }
+{
+    (1 << w) - 1
+}
+
 // The `w` bits of `whole` that `after` bits follow.
 fn cut(whole: u64, after: usize, w: usize) -> u64
     requires { ⌜ (after + w ≤ 64) × (w ≤ 56) ⌝ }
     ensures { λ r. ⌜ r ≡ whole / 2 ^ after % 2 ^ w ⌝ }
 {
-    (whole >> (after & 63)) & ((1 << w) - 1)
+    (whole >> (after & 63)) & mask(w)
 }
 
 // `whole` with `v` for these bits.
@@ -83,7 +94,7 @@ fn pasted(whole: u64, after: usize, w: usize, v: u64) -> u64
     requires { ⌜ (after + w ≤ 64) × (w ≤ 56) × (v < 2 ^ w) ⌝ }
     ensures { λ r. ⌜ r ≡ whole / 2 ^ (w + after) * 2 ^ (w + after) + (v * 2 ^ after + whole % 2 ^ after) ⌝ }
 {
-    whole - (cut(whole, after, w) << (after & 63)) + (v << (after & 63))
+    (whole & !(mask(w) << (after & 63))) | (v << (after & 63))
 }
 
 // The `k` bits that end with bit `last`, all of one byte.
@@ -188,7 +199,7 @@ pub fn put_all(out: &mut [u8], at: usize, widths: &[u8], values: &[u64])
     while i < widths.len() {
         let w = index(widths[i]);
         let v = values[i];
-        if 56 < n + w {
+        if FIELD < n + w {
             put(out, to, n, acc);
             to += n;
             acc = v;
@@ -202,7 +213,7 @@ pub fn put_all(out: &mut [u8], at: usize, widths: &[u8], values: &[u64])
     put(out, to, n, acc);
 }
 
-// Copies `n` bits of `src` from bit `from` on to `dst` at bit `to`, 56 at a time.
+// Copies `n` bits of `src` from bit `from` on to `dst` at bit `to`, a field at a time.
 pub fn copy(src: &[u8], from: usize, dst: &mut [u8], to: usize, n: usize)
     requires { ⌜ Inside (length (now src)) from (from + n) × Inside (length (now dst)) to (to + n) ⌝ }
     ensures { λ r. ⌜ bitsOf (now (dst .exit))
@@ -210,20 +221,20 @@ pub fn copy(src: &[u8], from: usize, dst: &mut [u8], to: usize, n: usize)
 {
     let mut i = 0;
     while i < n {
-        let w = least(n - i, 56);
+        let w = least(n - i, FIELD);
         put(dst, to + i, w, get(src, from + i, w));
         i += w;
     }
 }
 
-// 0s from bit `from` up to `to`, 56 at a time.
+// 0s from bit `from` up to `to`, a field at a time.
 pub fn clear(out: &mut [u8], from: usize, to: usize)
     requires { ⌜ Inside (length (now out)) from to ⌝ }
     ensures { λ r. ⌜ bitsOf (now (out .exit)) ≡ over from (replicate (to - from) false) (bitsOf (now (out .entry))) ⌝ }
 {
     let mut i = from;
     while i < to {
-        let w = least(to - i, 56);
+        let w = least(to - i, FIELD);
         put(out, i, w, 0);
         i += w;
     }
@@ -235,7 +246,7 @@ pub fn fill(out: &mut [u8], from: usize, to: usize)
     ensures { λ r. ⌜ bitsOf (now (out .exit)) ≡ over from (fillBits (to - from)) (bitsOf (now (out .entry))) ⌝ }
 {
     if from < to {
-        let w = least(to - from, 56);
+        let w = least(to - from, FIELD);
         put(out, from, w, 1 << (w - 1));
         clear(out, from + w, to);
     }
@@ -247,8 +258,8 @@ pub enum Found {
     Nothing,
 }
 
-// The last bit that is 1 of those from `from` up to `to`, byte by byte from the end. Of the last byte the bits after the
-// room are left out; in the first one a 1 before the room is none of its own. It calls itself where the room starts
+// The last bit that is 1 of those from `from` up to `to`, byte by byte from the end. Of the last byte the bits after
+// the room are left out; in the first one a 1 before the room is none of its own. It calls itself where the room starts
 // within a byte, and so stands in the image once (decision 12).
 pub fn last_one(s: &[u8], from: usize, to: usize) -> Found
     requires { ⌜ Inside (length (now s)) from to ⌝ }

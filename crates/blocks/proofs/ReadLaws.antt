@@ -3,16 +3,13 @@ use mathlib.Core.Path.{_≡_, refl, sym, ap, _∙_}
 use mathlib.Core.Bool.{Bool, true, false}
 use mathlib.Core.List.{List, [], _∷_, _++_}
 use Prim.Native.Nat.{ℕ, zero, suc, _+_, _-_, _≤_}
-use native.Mathlib.Omega.{arith}
-use lib.Dec.{leb, eqb}
+use lib.Dec.{eqb}
 use lib.ListN.{length, drop}
-use lib.Seq.{length-slice}
-use borrow.Author.Tests.{leb-true, eqb-true}
-use Rattle.bits.specs.Bits.{bitsOf, field}
+use Rattle.bits.specs.Bits.{bitsOf}
 use Rattle.blocks.specs.Faults.{unless, firstOf}
 use Rattle.blocks.specs.Sdu.{isThere, bitsIn}
 use Rattle.blocks.specs.Sync.{syncOf, syncChecks}
-use Rattle.blocks.specs.Header.{messageIn, runIn, widthIn, fieldsWith, tailOf, bodyOf, roomOf, messageOf}
+use Rattle.blocks.specs.Header.{messageIn, runIn, widthIn, fieldsWith, tailOf, bodyOf, messageOf}
 use Rattle.blocks.specs.Header.{rulesOf, bodyChecks, placeRules, refusedHeader, headerOf, answered, readBody}
 use Rattle.blocks.specs.Header.{readHeader, readReported}
 use Rattle.blocks.specs.declared.sync.Sync.{Sync}

@@ -66,14 +66,17 @@ module _ (m w e : ℕ) {E : Entry} (p : E ≡ entryOf m) where
   unfolding runFits
   run-unlisted h = rw (lt-leb (entryOf m .width) 254 (rw p at h)) refl
 
-  module _ (l : E .width ≤ 254) where
+  module _ (l : E .width < 255) where
+    few : entryOf m .width ≤ 254
+    few = let k = rw p at l in omega arith
+
     listed : leb (entryOf m .width) 254 ≡ true
-    listed = le-leb (entryOf m .width) 254 (rw p at l)
+    listed = le-leb (entryOf m .width) 254 few
 
     pub run-wide : 45 < w → false ≡ runFits m w e
     unfolding runFits
     run-wide h =
-        let n = width-listed m (bitsN w e) (rw p at l) in
+        let n = width-listed m (bitsN w e) few in
         rw (listed, ne-eqb (widthOf (entryOf m) (bitsN w e)) w (omega arith)) (never (ltb e (2 ^ w)))
       where
         never : (t : Bool) → false ≡ runHolds true t false

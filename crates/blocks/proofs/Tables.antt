@@ -2,10 +2,9 @@
 use mathlib.Core.Path.{_≡_, refl}
 use mathlib.Core.Bool.{Bool, true, false}
 use mathlib.Core.List.{List, [], _∷_}
-use Prim.Native.Nat.{ℕ, zero, suc, _<_}
-use native.Mathlib.Omega.{arith}
+use Prim.Native.Nat.{ℕ, zero, suc}
 use lib.Dec.{T}
-use lib.ListN.{length, getD}
+use lib.ListN.{getD}
 
 abbrev pub both : Bool → Bool → Bool
 both true b = b
@@ -38,9 +37,3 @@ module _ {A : Type 0} where
   at-any f [] d t e n = e
   at-any f (x ∷ xs) d t e zero = both-left (f x) (every f xs) t
   at-any f (x ∷ xs) d t e (suc n) = at-any f xs d (both-right (f x) (every f xs) t) e n
-
-  -- what stands for a place past the end does not matter within
-  pub getD-within : (xs : List A) (n : ℕ) (c d : A) → n < length xs → getD xs n c ≡ getD xs n d
-  getD-within [] n c d h = absurd (omega arith)
-  getD-within (x ∷ xs) zero c d h = refl
-  getD-within (x ∷ xs) (suc n) c d h = getD-within xs n c d (omega arith)

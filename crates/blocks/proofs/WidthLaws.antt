@@ -5,9 +5,10 @@ use mathlib.Core.List.{List, [], _∷_, _++_}
 use Prim.Native.Nat.{ℕ, zero, suc, _+_, _≤_, _<_}
 use native.Mathlib.Omega.{arith}
 use lib.Dec.{T, eqb, ltb, leb, leb→le}
-use borrow.Author.Tests.{leb-true, ltb-true, eqb-true}
+use borrow.Author.Tests.{leb-true, ltb-true, ltb-false, eqb-true}
 use mathlib.Core.Logic.{_⊎_, inl, inr, ⊎-elim}
-use lib.ListN.{length, take, drop}
+use lib.ListN.{length, take, drop, getD, replicate, length-replicate, getD-replicate}
+use lib.ListN.{List·getD-append, List·getD-eq-default}
 use lib.Seq.{drop-drop}
 use Rattle.bits.specs.Bits.{num, field}
 use Rattle.blocks.specs.Widths.{table, no-entry, entryOf, added, added-if, widthOf}
@@ -54,6 +55,52 @@ nearly e t₀ =
 pub near-entry : (m : ℕ) {e : Entry} → e ≡ entryOf m → Near e
 unfolding entryOf
 near-entry m p = subst Near (sym p) (nearly (entryOf m) (at-any near? table no-entry tt tt m))
+
+-- ---- the codes without entry
+
+-- m is none of the n codes from `lo` on, beside what else is known of it
+abbrev pub NoneOf : Type 0 → ℕ → ℕ → ℕ → Type 0
+NoneOf B lo zero m = B
+NoneOf B lo (suc n) m = NoneOf B lo n m × (m ≡ lo + n → ⊥)
+
+-- what else is known, and where m stands then
+beside : (B : Type 0) (lo n m : ℕ) → NoneOf B lo n m → B
+beside B lo zero m h = h
+beside B lo (suc n) m h = beside B lo n m (h .0)
+
+past : (B : Type 0) (lo n m : ℕ) → NoneOf B lo n m → lo ≤ m → lo + n ≤ m
+past B lo zero m h l = omega arith
+past B lo (suc n) m h l = let k = past B lo n m (h .0) l in let z : m ≡ lo + n → ⊥ = h .1 in omega arith
+
+-- a run of n entries that are none
+none-in : (xs ys : List Entry) (n m : ℕ) → length xs ≤ m → m < length xs + n
+    → getD (xs ++ (replicate n no-entry ++ ys)) m no-entry ≡ no-entry
+none-in [] ys n m h l =
+    List·getD-append (replicate n no-entry) ys no-entry m (rw (length-replicate n no-entry) (omega arith))
+    ∙ getD-replicate n m no-entry no-entry (omega arith)
+none-in (x ∷ xs) ys n zero h l = absurd (omega arith)
+none-in (x ∷ xs) ys n (suc m) h l = none-in xs ys n m (omega arith) (omega arith)
+
+-- codes 4 to 7, 25 to 31, and what is no code
+unlisted-when : (early listed : Bool) (m : ℕ) → ltb m 8 ≡ early → ltb m 32 ≡ listed → 4 ≤ m → (8 ≤ m → 25 ≤ m)
+    → no-entry ≡ entryOf m
+unfolding entryOf
+unlisted-when true listed m a b h l =
+    let k = ltb-true m 8 a in sym (none-in (take 4 table) (drop 8 table) 4 m (omega arith) (omega arith))
+unlisted-when false true m a b h l =
+    let k = ltb-true m 32 b in
+    let n = l (ltb-false m 8 a) in
+    sym (none-in (take 25 table) [] 7 m (omega arith) (omega arith))
+unlisted-when false false m a b h l = sym (List·getD-eq-default table no-entry (ltb-false m 32 b))
+
+-- the messages are 0 to 3 and 8 to 24
+pub unlisted : (m : ℕ) → NoneOf (NoneOf (Unit {0}) 0 4 m) 8 17 m → no-entry ≡ entryOf m
+unlisted m h =
+    let early = NoneOf (Unit {0}) 0 4 m in
+    unlisted-when (ltb m 8) (ltb m 32) m refl refl (past (Unit {0}) 0 4 m (beside early 8 17 m h) (omega arith))
+    (past early 8 17 m h)
+
+-- ---- what flags add
 
 added-if-le : (t : Bool) (n : ℕ) → added-if t n ≤ n
 added-if-le true n = omega arith

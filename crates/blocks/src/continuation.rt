@@ -2,7 +2,9 @@
 ghost use mathlib.Core.Path.{_≡_};
 ghost use Rattle.blocks.specs.Continuation.{refusedBlock, readContinuation};
 use crate::fault::Fault;
+use crate::sizes::PAD;
 use crate::sizes::SchF;
+use crate::sizes::Width;
 use bits::Found;
 
 // A continuation block that was read; where it was refused, all but the fault is 0. `last` is 1 for DMAC-END, `first`
@@ -33,21 +35,21 @@ pub fn read_continuation(s: &[u8]) -> Continuation
     if s.len() != SchF::BYTES {
         return refused(Fault::LENGTH);
     }
-    if bits::get8(s, 268, 4) != 0 {
+    if bits::get8(s, SchF::BITS, PAD) != 0 {
         return refused(Fault::PAD);
     }
-    if bits::get8(s, 0, 2) != 1 {
+    if bits::get8(s, SchF::PDU_TYPE, Width::PDU_TYPE) != 1 {
         return refused(Fault::PDU_TYPE);
     }
-    let last = bits::get8(s, 2, 1);
-    let fill = bits::get8(s, 3, 1);
-    let Found::At(end) = crate::sdu::sdu_end(s, fill, 4, SchF::BITS) else {
+    let last = bits::get8(s, SchF::SUBTYPE, 1);
+    let fill = bits::get8(s, SchF::FILL, 1);
+    let Found::At(end) = crate::sdu::sdu_end(s, fill, SchF::FIRST, SchF::BITS) else {
         return refused(Fault::FILL);
     };
     Continuation {
         fault: 0,
         last,
-        first: 4,
-        bits: end - 4,
+        first: SchF::FIRST,
+        bits: end - SchF::FIRST,
     }
 }

@@ -9,7 +9,9 @@ ghost use Rattle.blocks.specs.Header.{bodyOf, bodyRules, no-fields, refu
 ghost use Rattle.blocks.specs.Header.{readReported};
 use crate::fault::Fault;
 use crate::sizes::SchH;
+use crate::sizes::Width;
 use crate::sync::Sync;
+use crate::widths::NO_ENTRY;
 use bits::Found;
 
 // An address element: its type, and the SSI, 0 where it is absent.
@@ -21,7 +23,16 @@ pub struct Address {
 
 impl Address {
     // The type of an address element that is absent.
-    const ABSENT: u8 = 2;
+    pub const ABSENT: u8 = 2;
+
+    // One more than the largest SSI.
+    pub const END: u32 = 1 << Width::ADDRESS;
+
+    // The bits of an address element that is there, with its type.
+    const BITS: usize = Width::ADDRESS_TYPE + Width::ADDRESS;
+
+    // Those of the SSI, as a mask.
+    const SSI: u32 = Address::END - 1;
 }
 
 // What a message's header says of it: addresses, MNI, message type, and the dependent elements as one run of bits with
@@ -88,7 +99,11 @@ fn refused(fault: u8) -> Header
 pub fn address_width(kind: u8) -> usize
     ensures { λ r. ⌜ r ≡ addressWidth kind ⌝ }
 {
-    if kind == Address::ABSENT { 0 } else { 24 }
+    if kind == Address::ABSENT {
+        0
+    } else {
+        Width::ADDRESS
+    }
 }
 
 // An address as it stands, and the bit after it.
@@ -101,18 +116,18 @@ fn address_at(h: &[u8], at: usize) -> Addressed
     requires { ⌜ (at + 26 ≤ 8 * length (now h)) × (at ≤ 4096) ⌝ }
     ensures { λ r. ⌜ r ≡ addressAt at (bitsOf (now (h .entry))) ⌝ }
 {
-    let element = bits::get32(h, at, 26);
-    let kind = (element >> 24) as u8;
+    let element = bits::get32(h, at, Address::BITS);
+    let kind = (element >> Width::ADDRESS) as u8;
     if kind == Address::ABSENT {
         return Addressed {
             address: Address { kind, ssi: 0 },
-            next: at + 2,
+            next: at + Width::ADDRESS_TYPE,
         };
     }
-    let ssi = element & 16777215;
+    let ssi = element & Address::SSI;
     Addressed {
         address: Address { kind, ssi },
-        next: at + 26,
+        next: at + Address::BITS,
     }
 }
 
@@ -135,9 +150,9 @@ pub(crate) fn tail_at(h: &[u8], at: usize) -> Tail
 {
     let d = address_at(h, at);
     let s = address_at(h, d.next);
-    let mni = bits::get32(h, s.next, 24);
-    let message = bits::get8(h, s.next + 24, 5);
-    let run = s.next + 24 + 5;
+    let mni = bits::get32(h, s.next, Width::MNI);
+    let message = bits::get8(h, s.next + Width::MNI, Width::MESSAGE_TYPE);
+    let run = s.next + Width::MNI + Width::MESSAGE_TYPE;
     let width = crate::widths::width_at(h, run, message);
     let destination = d.address;
     let source = s.address;
@@ -163,7 +178,7 @@ pub(crate) fn tail_rules(to: u8, from: u8, width: usize, first: usize, end: usiz
     if 2 < from {
         return Fault::ADDRESS_TYPE;
     }
-    if 254 < width {
+    if (NO_ENTRY as usize) <= width {
         return Fault::MESSAGE_TYPE;
     }
     if end < first {
@@ -190,13 +205,20 @@ pub(crate) fn tail_fields(h: &[u8], t: Tail) -> Fields
     }
 }
 
+// The bits of those of SCH/H's elements that every header has.
+const EVERY: usize = SchH::COUNT
+    + Width::COUNTDOWN
+    + 2 * Width::ADDRESS_TYPE
+    + Width::MNI
+    + Width::MESSAGE_TYPE;
+
 // The bits of SCH/H's elements, up to the DM-SDU.
 pub fn header_bits(fragmented: u8, to: u8, from: u8, width: u8) -> usize
     ensures { λ r. ⌜ r ≡ sduAt (shape fragmented to from width) ⌝ }
 {
     let d = address_width(to);
     let s = address_width(from);
-    12 + 4 * (fragmented as usize) + 2 + 2 + d + 2 + s + 24 + 5 + (width as usize)
+    EVERY + Width::COUNT * (fragmented as usize) + d + s + (width as usize)
 }
 
 // SCH/H as it stands, before it is judged.
@@ -212,13 +234,13 @@ fn body_of(h: &[u8]) -> Body
     requires { ⌜ length (now h) ≡ 16 ⌝ }
     ensures { λ r. ⌜ r ≡ bodyOf (bitsOf (now (h .entry))) ⌝ }
 {
-    let fill = bits::get8(h, 10, 1);
-    let fragmented = bits::get8(h, 11, 1);
-    let counted = 4 * (fragmented as usize);
-    let count = bits::get8(h, 12, counted);
-    let at = 12 + counted;
-    let countdown = bits::get8(h, at, 2);
-    let tail = tail_at(h, at + 2);
+    let fill = bits::get8(h, SchH::FILL, 1);
+    let fragmented = bits::get8(h, SchH::FRAGMENTED, 1);
+    let counted = Width::COUNT * (fragmented as usize);
+    let count = bits::get8(h, SchH::COUNT, counted);
+    let at = SchH::COUNT + counted;
+    let countdown = bits::get8(h, at, Width::COUNTDOWN);
+    let tail = tail_at(h, at + Width::COUNTDOWN);
     Body {
         fill,
         fragmented,

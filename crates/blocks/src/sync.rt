@@ -5,8 +5,10 @@ ghost use Rattle.bits.specs.Bits.{bitsOf};
 ghost use Rattle.blocks.specs.Faults.{firstOf};
 ghost use Rattle.blocks.specs.Sync.{syncOf, syncRules, syncChecks};
 use crate::fault::Fault;
+use crate::sizes::PAD;
 use crate::sizes::SchH;
 use crate::sizes::SchS;
+use crate::sizes::Width;
 
 // Its fields, but for the fixed ones. The slot is as coded in 9.3.25: 0 is slot 1.
 #[repr(C)]
@@ -66,13 +68,13 @@ pub(crate) fn sync_fault(s: &[u8], h: &[u8]) -> u8
     if h.len() != SchH::BYTES {
         return Fault::LENGTH;
     }
-    let pad = bits::get8(s, 60, 4);
-    let other = bits::get8(h, 124, 4);
-    let system = bits::get8(s, 0, 4);
-    let pdu = bits::get8(s, 4, 2);
-    let communication = bits::get8(s, 6, 2);
-    let encryption = bits::get8(s, 19, 2);
-    let frame = bits::get8(s, 14, 5);
+    let pad = bits::get8(s, SchS::BITS, PAD);
+    let other = bits::get8(h, SchH::BITS, PAD);
+    let system = bits::get8(s, SchS::SYSTEM, Width::SYSTEM);
+    let pdu = bits::get8(s, SchS::SYNC_TYPE, Width::SYNC_TYPE);
+    let communication = bits::get8(s, SchS::COMMUNICATION, Width::COMMUNICATION);
+    let encryption = bits::get8(s, SchS::ENCRYPTION, Width::ENCRYPTION);
+    let frame = bits::get8(s, SchS::FRAME, Width::FRAME);
     sync_rules(pad, other, system, pdu, communication, encryption, frame)
 }
 
@@ -90,9 +92,9 @@ pub(crate) fn sync_of(s: &[u8]) -> Sync
         };
     }
     Sync {
-        system: bits::get8(s, 0, 4),
-        usage: bits::get8(s, 10, 2),
-        slot: bits::get8(s, 12, 2),
-        frame: bits::get8(s, 14, 5),
+        system: bits::get8(s, SchS::SYSTEM, Width::SYSTEM),
+        usage: bits::get8(s, SchS::USAGE, Width::USAGE),
+        slot: bits::get8(s, SchS::SLOT, Width::SLOT),
+        frame: bits::get8(s, SchS::FRAME, Width::FRAME),
     }
 }

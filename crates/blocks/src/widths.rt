@@ -3,7 +3,7 @@ ghost use mathlib.Core.Path.{_≡_};
 ghost use Prim.Native.Nat.{_+_, _*_, _≤_};
 ghost use lib.ListN.{length, drop};
 ghost use Rattle.bits.specs.Bits.{bitsOf};
-ghost use Rattle.blocks.specs.Widths.{entryOf, added, widthOf, runFits};
+ghost use Rattle.blocks.specs.Widths.{fixed, flagged, flagged-twice, entryOf, added, widthOf, runFits};
 
 // The width of a message's elements with no flag set; the place of a flag in them and the bits that an element adds
 // which hangs on it, twice. The second flag's place is counted without what the first adds.
@@ -18,248 +18,62 @@ pub struct Entry {
 // The width that marks a code without an entry.
 pub const NO_ENTRY: u8 = 255;
 
-const TABLE: [Entry; 32] = [
-    Entry {
-        width: 18,
-        flag: 8,
-        adds: 8,
-        flag2: 0,
-        adds2: 0,
-    },
-    Entry {
-        width: 7,
-        flag: 0,
-        adds: 0,
-        flag2: 0,
-        adds2: 0,
-    },
-    Entry {
-        width: 12,
-        flag: 0,
-        adds: 0,
-        flag2: 0,
-        adds2: 0,
-    },
-    Entry {
-        width: 2,
-        flag: 1,
-        adds: 12,
-        flag2: 0,
-        adds2: 0,
-    },
-    Entry {
-        width: NO_ENTRY,
-        flag: 0,
-        adds: 0,
-        flag2: 0,
-        adds2: 0,
-    },
-    Entry {
-        width: NO_ENTRY,
-        flag: 0,
-        adds: 0,
-        flag2: 0,
-        adds2: 0,
-    },
-    Entry {
-        width: NO_ENTRY,
-        flag: 0,
-        adds: 0,
-        flag2: 0,
-        adds2: 0,
-    },
-    Entry {
-        width: NO_ENTRY,
-        flag: 0,
-        adds: 0,
-        flag2: 0,
-        adds2: 0,
-    },
-    Entry {
-        width: 21,
-        flag: 0,
-        adds: 0,
-        flag2: 0,
-        adds2: 0,
-    },
-    Entry {
-        width: 21,
-        flag: 0,
-        adds: 0,
-        flag2: 0,
-        adds2: 0,
-    },
-    Entry {
-        width: 8,
-        flag: 0,
-        adds: 0,
-        flag2: 0,
-        adds2: 0,
-    },
-    Entry {
-        width: 0,
-        flag: 0,
-        adds: 0,
-        flag2: 0,
-        adds2: 0,
-    },
-    Entry {
-        width: 21,
-        flag: 0,
-        adds: 0,
-        flag2: 0,
-        adds2: 0,
-    },
-    Entry {
-        width: 21,
-        flag: 0,
-        adds: 0,
-        flag2: 0,
-        adds2: 0,
-    },
-    Entry {
-        width: 0,
-        flag: 0,
-        adds: 0,
-        flag2: 0,
-        adds2: 0,
-    },
-    Entry {
-        width: 13,
-        flag: 7,
-        adds: 8,
-        flag2: 10,
-        adds2: 12,
-    },
-    Entry {
-        width: 3,
-        flag: 0,
-        adds: 12,
-        flag2: 0,
-        adds2: 0,
-    },
-    Entry {
-        width: 1,
-        flag: 0,
-        adds: 12,
-        flag2: 0,
-        adds2: 0,
-    },
-    Entry {
-        width: 10,
-        flag: 2,
-        adds: 12,
-        flag2: 0,
-        adds2: 0,
-    },
-    Entry {
-        width: 6,
-        flag: 0,
-        adds: 12,
-        flag2: 0,
-        adds2: 0,
-    },
-    Entry {
-        width: 0,
-        flag: 0,
-        adds: 0,
-        flag2: 0,
-        adds2: 0,
-    },
-    Entry {
-        width: 0,
-        flag: 0,
-        adds: 0,
-        flag2: 0,
-        adds2: 0,
-    },
-    Entry {
-        width: 8,
-        flag: 0,
-        adds: 0,
-        flag2: 0,
-        adds2: 0,
-    },
-    Entry {
-        width: 8,
-        flag: 0,
-        adds: 0,
-        flag2: 0,
-        adds2: 0,
-    },
-    Entry {
-        width: 1,
-        flag: 0,
-        adds: 0,
-        flag2: 0,
-        adds2: 0,
-    },
-    Entry {
-        width: NO_ENTRY,
-        flag: 0,
-        adds: 0,
-        flag2: 0,
-        adds2: 0,
-    },
-    Entry {
-        width: NO_ENTRY,
-        flag: 0,
-        adds: 0,
-        flag2: 0,
-        adds2: 0,
-    },
-    Entry {
-        width: NO_ENTRY,
-        flag: 0,
-        adds: 0,
-        flag2: 0,
-        adds2: 0,
-    },
-    Entry {
-        width: NO_ENTRY,
-        flag: 0,
-        adds: 0,
-        flag2: 0,
-        adds2: 0,
-    },
-    Entry {
-        width: NO_ENTRY,
-        flag: 0,
-        adds: 0,
-        flag2: 0,
-        adds2: 0,
-    },
-    Entry {
-        width: NO_ENTRY,
-        flag: 0,
-        adds: 0,
-        flag2: 0,
-        adds2: 0,
-    },
-    Entry {
-        width: NO_ENTRY,
-        flag: 0,
-        adds: 0,
-        flag2: 0,
-        adds2: 0,
-    },
-];
+// Elements of one width.
+fn fixed(width: u8) -> Entry
+    ensures { λ r. ⌜ r ≡ fixed width ⌝ }
+{
+    flagged(width, 0, 0)
+}
 
-// The entry of a message type.
+// An element that hangs on a flag.
+fn flagged(width: u8, flag: u8, adds: u8) -> Entry
+    ensures { λ r. ⌜ r ≡ flagged width flag adds ⌝ }
+{
+    flagged_twice(width, flag, adds, 0, 0)
+}
+
+// Two such.
+fn flagged_twice(width: u8, flag: u8, adds: u8, flag2: u8, adds2: u8) -> Entry
+    ensures { λ r. ⌜ r ≡ flagged-twice width flag adds flag2 adds2 ⌝ }
+{
+    Entry {
+        width,
+        flag,
+        adds,
+        flag2,
+        adds2,
+    }
+}
+
+// The entry of a message type (9.3.19), as 9.4 and 9.5 have its elements.
 pub fn entry_of(message: u8) -> Entry
     ensures { λ r. ⌜ r ≡ entryOf message ⌝ }
 {
-    let i = message as usize;
-    if i < 32 {
-        TABLE[i]
-    } else {
-        Entry {
-            width: NO_ENTRY,
-            flag: 0,
-            adds: 0,
-            flag2: 0,
-            adds2: 0,
-        }
+    match message {
+        0 => flagged(18, 8, 8), // DM-RESERVED, 9.4.1: requests flag, requests bitmap
+        1 => fixed(7), // DM-SDS OCCUPIED, 9.4.2
+        2 => fixed(12), // DM-TIMING REQUEST, 9.4.3
+        3 => flagged(2, 1, 12), // DM-TIMING ACK, 9.4.4: timing change announced, timing adjustment
+        // 4 to 7 are reserved.
+        8 => fixed(21), // DM-SETUP, 9.5.1
+        9 => fixed(21), // DM-SETUP PRES, 9.5.2
+        10 => fixed(8), // DM-CONNECT, 9.5.3
+        11 => fixed(0), // DM-DISCONNECT, 9.5.4
+        12 => fixed(21), // DM-CONNECT ACK, 9.5.5
+        13 => fixed(21), // DM-OCCUPIED, 9.5.6
+        14 => fixed(0), // DM-RELEASE, 9.5.7
+        15 => flagged_twice(13, 7, 8, 10, 12), // DM-TX CEASED, 9.5.8: requests flag, bitmap; timing change, adjustment
+        16 => flagged(3, 0, 12), // DM-TX REQUEST, 9.5.9: timing change required, timing adjustment
+        17 => flagged(1, 0, 12), // DM-TX ACCEPT, 9.5.10: timing change announced, timing adjustment
+        18 => flagged(10, 2, 12), // DM-PREEMPT, 9.5.11: timing change required, timing adjustment
+        19 => flagged(6, 0, 12), // DM-PRE ACCEPT, 9.5.12: timing change announced, timing adjustment
+        20 => fixed(0), // DM-REJECT, 9.5.13
+        21 => fixed(0), // DM-INFO, 9.5.14
+        22 => fixed(8), // DM-SDS UDATA, 9.5.15
+        23 => fixed(8), // DM-SDS DATA, 9.5.16
+        24 => fixed(1), // DM-SDS ACK, 9.5.17
+        // 25 is for gateway-specific messages, 26 to 29 are reserved, 30 and 31 proprietary.
+        _ => fixed(NO_ENTRY),
     }
 }
 
@@ -281,15 +95,18 @@ pub(crate) fn width_at(s: &[u8], at: usize, message: u8) -> usize
     (e.width as usize) + first + second
 }
 
+// The most bits that an entry's elements have: 21, and 24 that hang on flags.
+const WIDEST: usize = 45;
+
 // Whether a run of elements is one that the table has for this message type; one without entry is not tested.
 pub fn run_fits(message: u8, width: u8, elements: u64) -> bool
     ensures { λ r. ⌜ r ≡ runFits message width elements ⌝ }
 {
-    if 254 < entry_of(message).width {
+    if NO_ENTRY <= entry_of(message).width {
         return true;
     }
     let w = width as usize;
-    if 45 < w {
+    if WIDEST < w {
         return false;
     }
     if elements >> w != 0 {

@@ -2,7 +2,7 @@
 use mathlib.Core.Path.{_≡_, refl, ap, ap₂, _∙_}
 use mathlib.Core.Bool.{Bool, true, false, cond}
 use mathlib.Core.List.{List, [], _∷_, _++_, append-assoc}
-use Prim.Native.Nat.{ℕ, zero, suc, _+_, _-_, _*_, _/_, _^_, _≤_, _<_, min}
+use Prim.Native.Nat.{ℕ, zero, suc, _+_, _-_, _*_, _/_, _≤_, min}
 use native.Mathlib.Nat.{min-le-left}
 use native.Mathlib.Omega.{arith}
 use lib.Dec.{ltb, leb}
@@ -21,7 +21,6 @@ use Rattle.build.specs.Build.{shapeFor, continuationBlock, continuationB
 use Rattle.build.specs.Build.{schS, schH, cutBlocks, schFs, blockBits, readAll, expected}
 use Rattle.blocks.specs.declared.sync.Sync.{Sync}
 use Rattle.blocks.specs.declared.header.Fields.{Fields}
-use Rattle.blocks.specs.declared.continuation.Continuation.{Continuation}
 use Rattle.build.proofs.BuildLaws.{length-block, told-le, fill-fits}
 use Rattle.build.proofs.BuiltLaws.{inside-length, sync-bits, header-bits, blocks-bits}
 use Rattle.build.proofs.RangeLaws.{InRange, sync-fits, header-fits, width-is, width-narrow}

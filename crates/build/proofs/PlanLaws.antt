@@ -1,7 +1,7 @@
 -- What a build's rules make of its numbers. Assumes nothing.
 use mathlib.Core.Path.{_≡_, refl, sym, ap, _∙_}
 use mathlib.Core.Bool.{Bool, true, false}
-use mathlib.Core.List.{List, [], _∷_, _++_}
+use mathlib.Core.List.{List, _++_}
 use Prim.Native.Nat.{ℕ, zero, suc, _+_, _-_, _*_, _/_, _≤_, _<_}
 use native.Mathlib.Nat.{sub-self}
 use native.Mathlib.Omega.{arith}
@@ -45,7 +45,10 @@ module _ (to from entry h n lent : ℕ) where
   unfolding planOf
   unlisted a b c = rw (le-leb to 2 a, le-leb from 2 b, lt-leb entry 254 c) refl
 
-  module _ (a : to ≤ 2) (b : from ≤ 2) (c : entry ≤ 254) where
+  module _ (a : to ≤ 2) (b : from ≤ 2) (e : entry < 255) where
+    c : entry ≤ 254
+    c = omega arith
+
     module _ (f : fitsHeader h n ≡ true) where
       pub whole-short : lent < 24 → noPlan 1 ≡ plan
       unfolding planOf

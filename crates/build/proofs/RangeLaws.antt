@@ -6,12 +6,12 @@ use Prim.Native.Nat.{ℕ, _+_, _-_, _*_, _/_, _^_, _≤_, _<_}
 use native.Mathlib.Nat.{sub-self}
 use native.Mathlib.Omega.{arith}
 use lib.Dec.{eqb, ltb, leb}
-use borrow.Author.Tests.{le-leb, lt-ltb, leb-true, leb-false, ltb-true, eqb-true}
+use borrow.Author.Tests.{le-leb, leb-true, leb-false, ltb-true, eqb-true}
 use Rattle.bits.specs.Bits.{bitsN}
 use Rattle.bits.specs.Layout.{AllFit}
 use Rattle.blocks.specs.Widths.{entryOf, widthOf, runHolds, runFits}
 use Rattle.blocks.specs.Sync.{syncParts}
-use Rattle.blocks.specs.Header.{addressWidth, sduAt}
+use Rattle.blocks.specs.Header.{sduAt}
 use Rattle.blocks.specs.Slots.{fitsHeader, inHeader}
 use Rattle.build.specs.Plan.{headerBits, fragmentedFor, blocksFor, numberRules, addressRules, elementRules}
 use Rattle.build.specs.Plan.{headerRules}

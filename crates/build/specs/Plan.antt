@@ -1,5 +1,5 @@
 -- What a build is refused for (8, 9, 13, 14 in the document's words), and how its message is cut (8.5.4.1).
-use mathlib.Core.Bool.{Bool, true, false, cond}
+use mathlib.Core.Bool.{true, cond}
 use mathlib.Core.List.{List, [], _∷_, _++_}
 use Prim.Native.Nat.{ℕ, zero, suc, _+_, _*_, _^_}
 use lib.Dec.{ltb, leb}

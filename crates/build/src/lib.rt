@@ -14,6 +14,11 @@ use bits::least;
 use blocks::header::Fields;
 use blocks::header::address_width;
 use blocks::header::header_bits;
+use blocks::sizes::PAD;
+use blocks::sizes::SchF;
+use blocks::sizes::SchH;
+use blocks::sizes::SchS;
+use blocks::sizes::Width;
 use blocks::sync::Sync;
 
 mod plan;
@@ -26,7 +31,7 @@ pub struct Built {
 }
 
 // Puts `count` bits of the message, from bit `from` on, into the room of so many bits at bit `at`, fills the room, and
-// writes the four pad bits after it.
+// writes the pad bits after it.
 fn put_room(message: &[u8], from: usize, count: usize, out: &mut [u8], at: usize, room: usize)
     requires { ⌜ Inside (length (now message)) from (from + count) × Inside (length (now out)) at (at + room + 4)
         × (count ≤ room) ⌝ }
@@ -36,7 +41,7 @@ fn put_room(message: &[u8], from: usize, count: usize, out: &mut [u8], at: usize
 {
     bits::copy(message, from, out, at, count);
     bits::fill(out, at + count, at + room);
-    bits::put(out, at + room, 4, 0);
+    bits::put(out, at + room, PAD, 0);
 }
 
 fn told(count: usize, room: usize) -> u64
@@ -45,7 +50,12 @@ fn told(count: usize, room: usize) -> u64
     if count < room { 1 } else { 0 }
 }
 
-const CONTINUATION: [u8; 3] = [2, 1, 1];
+// The widths of a continuation block's elements, in order.
+const CONTINUATION: [u8; 3] = [
+    Width::PDU_TYPE as u8,
+    1, // subtype
+    1, // fill
+];
 
 // A continuation block at bit `at`: DMAC-FRAG (0) or DMAC-END (1) with `count` bits of the message.
 fn put_block(last: u64, message: &[u8], from: usize, count: usize, out: &mut [u8], at: usize)
@@ -55,9 +65,9 @@ fn put_block(last: u64, message: &[u8], from: usize, count: usize, out: &mut [u8
         ≡ over at (continuationBlock last (take count (drop from (bitsOf (now (message .entry))))))
         (bitsOf (now (out .entry))) ⌝ }
 {
-    let values: [u64; 3] = [1, last, told(count, 264)];
+    let values: [u64; 3] = [1, last, told(count, SchF::ROOM)];
     bits::put_all(out, at, &CONTINUATION, &values);
-    put_room(message, from, count, out, at + 4, 264);
+    put_room(message, from, count, out, at + SchF::FIRST, SchF::ROOM);
 }
 
 fn last_when(left: usize) -> u64
@@ -66,7 +76,10 @@ fn last_when(left: usize) -> u64
     if left == 1 { 1 } else { 0 }
 }
 
-// The continuation blocks of the message's bits from bit `inside` up to bit `n`, from bit 192 on.
+// The output's bits before the continuation blocks.
+const HEADER: usize = SchS::LENT + SchH::LENT;
+
+// The continuation blocks of the message's bits from bit `inside` up to bit `n`, after the header.
 fn put_blocks(message: &[u8], inside: usize, n: usize, blocks: usize, out: &mut [u8])
     requires { ⌜ (inside ≤ n) × Inside (length (now message)) 0 n × (blocks ≤ 15)
         × (24 + 34 * blocks ≤ length (now out)) ⌝ }
@@ -76,17 +89,29 @@ fn put_blocks(message: &[u8], inside: usize, n: usize, blocks: usize, out: &mut 
 {
     let mut left = blocks;
     let mut from = inside;
-    let mut at: usize = 192;
+    let mut at = HEADER;
     while 0 < left {
-        let count = least(n - from, 264);
+        let count = least(n - from, SchF::ROOM);
         put_block(last_when(left), message, from, count, out, at);
         from += count;
-        at += 272;
+        at += SchF::LENT;
         left -= 1;
     }
 }
 
-const SYNC: [u8; 10] = [4, 2, 2, 2, 2, 2, 5, 2, 39, 4];
+// The widths of SCH/S's elements, in order.
+const SYNC: [u8; 10] = [
+    Width::SYSTEM as u8,
+    Width::SYNC_TYPE as u8,
+    Width::COMMUNICATION as u8,
+    2, // reserved
+    Width::USAGE as u8,
+    Width::SLOT as u8,
+    Width::FRAME as u8,
+    Width::ENCRYPTION as u8,
+    39, // reserved
+    PAD as u8,
+];
 
 // SCH/S, from bit 0 on.
 fn put_sync(sync: Sync, out: &mut [u8])
@@ -108,6 +133,17 @@ fn put_sync(sync: Sync, out: &mut [u8])
     bits::put_all(out, 0, &SYNC, &values);
 }
 
+// The widths of SCH/H's elements that building names, as they are listed.
+const COUNT: u8 = Width::COUNT as u8;
+
+const COUNTDOWN: u8 = Width::COUNTDOWN as u8;
+
+const ADDRESS_TYPE: u8 = Width::ADDRESS_TYPE as u8;
+
+const MNI: u8 = Width::MNI as u8;
+
+const MESSAGE_TYPE: u8 = Width::MESSAGE_TYPE as u8;
+
 // The widths of SCH/H's elements, in order.
 fn header_widths(fragmented: u8, to: u8, from: u8, width: u8) -> [u8; 12]
     requires { ⌜ fragmented ≤ 1 ⌝ }
@@ -115,10 +151,23 @@ fn header_widths(fragmented: u8, to: u8, from: u8, width: u8) -> [u8; 12]
 {
     let d = address_width(to) as u8;
     let s = address_width(from) as u8;
-    [10, 1, 1, 4 * fragmented, 2, 2, d, 2, s, 24, 5, width]
+    [
+        10, // reserved
+        1, // fill
+        1, // fragmented
+        COUNT * fragmented,
+        COUNTDOWN,
+        ADDRESS_TYPE,
+        d,
+        ADDRESS_TYPE,
+        s,
+        MNI,
+        MESSAGE_TYPE,
+        width,
+    ]
 }
 
-// SCH/H, from bit 64 on, with the first `inside` bits of the message.
+// SCH/H, after SCH/S, with the first `inside` bits of the message.
 fn put_header(
     fragmented: u8,
     count: u8,
@@ -138,7 +187,7 @@ fn put_header(
     let s = fields.source;
     let widths = header_widths(fragmented, d.kind, s.kind, fields.width);
     let first = header_bits(fragmented, d.kind, s.kind, fields.width);
-    let room = 124 - first;
+    let room = SchH::BITS - first;
     let values: [u64; 12] = [
         0,
         told(inside, room),
@@ -153,8 +202,8 @@ fn put_header(
         fields.message as u64,
         fields.elements,
     ];
-    bits::put_all(out, 64, &widths, &values);
-    put_room(message, 0, inside, out, 64 + first, room);
+    bits::put_all(out, SchS::LENT, &widths, &values);
+    put_room(message, 0, inside, out, SchS::LENT + first, room);
 }
 
 // Builds the blocks of the first `n` bits of a message at the output's start; refused, it writes nothing.

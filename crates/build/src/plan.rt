@@ -7,9 +7,18 @@ ghost use Rattle.blocks.specs.Slots.{fitsHeader};
 ghost use Rattle.build.specs.Plan.{numberRules, addressRules, noPlan, planOf, plannedOf};
 use bits::bits_lent;
 use blocks::fault::Fault;
+use blocks::header::Address;
 use blocks::header::Fields;
 use blocks::header::header_bits;
+use blocks::sizes::SchF;
+use blocks::sizes::SchH;
+use blocks::sizes::SchS;
+use blocks::sizes::Width;
 use blocks::sync::Sync;
+use blocks::widths::NO_ENTRY;
+
+// One more than the largest MNI.
+const MNI_END: u32 = 1 << Width::MNI;
 
 // The first of the faults 3, 7 and 13 that these numbers give, 0 where they give none.
 fn number_rules(
@@ -44,7 +53,7 @@ fn number_rules(
     if 3 < countdown {
         return Fault::RANGE;
     }
-    if 16777216 <= mni {
+    if MNI_END <= mni {
         return Fault::RANGE;
     }
     if 31 < message {
@@ -57,7 +66,11 @@ fn number_rules(
 fn address_most(kind: u8) -> u32
     ensures { λ r. ⌜ r ≡ 2 ^ addressWidth kind ⌝ }
 {
-    if kind == 2 { 1 } else { 16777216 }
+    if kind == Address::ABSENT {
+        1
+    } else {
+        Address::END
+    }
 }
 
 // 13 where the address type or the address is too large for its element, else 0.
@@ -77,10 +90,10 @@ fn address_rules(kind: u8, ssi: u32) -> u8
 fn fits_header(h: usize, n: usize) -> bool
     ensures { λ r. ⌜ r ≡ fitsHeader h n ⌝ }
 {
-    if 124 < n {
+    if SchH::BITS < n {
         return false;
     }
-    h <= 124 - n
+    h <= SchH::BITS - n
 }
 
 // How a message is cut: the fragmentation flag, the bits that the header takes, the number of continuation blocks; or
@@ -103,6 +116,18 @@ fn no_plan(fault: u8) -> Plan
     }
 }
 
+// The output's bytes before the continuation blocks.
+const HEADER: usize = SchS::BYTES + SchH::BYTES;
+
+// The bits of SCH/H without its slot count.
+const UNCOUNTED: usize = SchH::BITS - Width::COUNT;
+
+// The bits that fifteen continuation blocks take.
+const MOST: usize = 15 * SchF::ROOM;
+
+// Added before a division by a room's bits, so that a room that is not full counts.
+const ROUND_UP: usize = SchF::ROOM - 1;
+
 // The first of the faults 8, 9, 14 and 1, or the plan, for a message of n bits after a header of h, and an output of so
 // many bytes.
 fn plan_of(to: u8, from: u8, entry: u8, h: usize, n: usize, lent: usize) -> Plan
@@ -114,11 +139,11 @@ fn plan_of(to: u8, from: u8, entry: u8, h: usize, n: usize, lent: usize) -> Plan
     if 2 < from {
         return no_plan(Fault::ADDRESS_TYPE);
     }
-    if 254 < entry {
+    if NO_ENTRY <= entry {
         return no_plan(Fault::MESSAGE_TYPE);
     }
     if fits_header(h, n) {
-        if lent < 24 {
+        if lent < HEADER {
             return no_plan(Fault::LENGTH);
         }
         return Plan {
@@ -128,16 +153,16 @@ fn plan_of(to: u8, from: u8, entry: u8, h: usize, n: usize, lent: usize) -> Plan
             blocks: 0,
         };
     }
-    if 120 < h {
+    if UNCOUNTED < h {
         return no_plan(Fault::MESSAGE_TYPE);
     }
-    let inside = 120 - h;
+    let inside = UNCOUNTED - h;
     let rest = n - inside;
-    if 3960 < rest {
+    if MOST < rest {
         return no_plan(Fault::TOO_LONG);
     }
-    let blocks = (rest + 263) / 264;
-    if lent < 24 + 34 * blocks {
+    let blocks = (rest + ROUND_UP) / SchF::ROOM;
+    if lent < HEADER + SchF::BYTES * blocks {
         return no_plan(Fault::LENGTH);
     }
     Plan {

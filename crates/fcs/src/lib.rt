@@ -1,22 +1,17 @@
 // The frame check sequence (EN 300 396-3, Annex B): its long division over a register of 32 bits, the first bit
 // highest.
 ghost use mathlib.Core.Path.{_≡_};
-ghost use Prim.Native.Nat.{_≤_, min};
+ghost use Prim.Native.Nat.{_≤_};
 ghost use lib.ListN.{length, take};
 ghost use Rattle.bits.specs.Bits.{num, bitsN, bitsOf, Inside};
 ghost use Rattle.fcs.specs.Annex.{fcsOf};
 ghost use Rattle.fcs.specs.Register.{ones, fed, turns, Fours};
+use bits::least;
 
 fn wide(x: u8) -> u32
     ensures { λ r. ⌜ r ≡ x ⌝ }
 {
     x as u32
-}
-
-fn least(a: usize, b: usize) -> usize
-    ensures { λ r. ⌜ r ≡ min a b ⌝ }
-{
-    if a < b { a } else { b }
 }
 
 // What a frame of `n` bits begins with.

@@ -43,7 +43,7 @@ pub fn wipe(store: &mut [u8])
 }
 
 // Hands the `n` bits that a store holds over: to the message's start.
-pub fn hand_over(store: &[u8], n: usize, message: &mut [u8])
+fn hand_over(store: &[u8], n: usize, message: &mut [u8])
     requires { ⌜ (n ≤ 4096) × (length (now store) ≡ 512) × (512 ≤ length (now message)) ⌝ }
     ensures { λ r. ⌜ now (message .exit) ≡ firstOver n (now (store .entry)) (now (message .entry)) ⌝ }
 {

@@ -12,8 +12,14 @@ get32-requires c κs = search needs
 cast-kind : tie.Need-cast-kind
 cast-kind c = search needs
 
-add-t9 : tie.Need-add-t9
-add-t9 c = search needs
+shr-kind : tie.Need-shr-kind
+shr-kind c = search needs
+
+cast-kind-2 : tie.Need-cast-kind-2
+cast-kind-2 c = search needs
+
+add-t10 : tie.Need-add-t10
+add-t10 c = search needs
 
 returns : tie.Need-returns
 returns c =
@@ -21,8 +27,8 @@ returns c =
     address-absent (a .at) (bitsOf (a .h .now)) (c .before .get32 .result) (omega (arith, length-bitsOf (a .h .now)))
     (c .before .get32 .ensures .is) (c .if1 .taken)
 
-add-t11 : tie.Need-add-t11
-add-t11 c = search needs
+add-t12 : tie.Need-add-t12
+add-t12 c = search needs
 
 returns-2 : tie.Need-returns-2
 returns-2 c =
@@ -31,4 +37,4 @@ returns-2 c =
     (c .before .get32 .ensures .is) (c .if1 .left)
 
 pub address-at-spec : {M : Type 1} → statement M
-address-at-spec = tie.close (tie.spec get32-requires cast-kind add-t9 returns add-t11 returns-2)
+address-at-spec = tie.close (tie.spec get32-requires cast-kind shr-kind cast-kind-2 add-t10 returns add-t12 returns-2)

@@ -17,35 +17,20 @@ mul-result c = search needs
 add-result : tie.Need-add-result
 add-result c = search needs
 
-add-result-2 : tie.Need-add-result-2
-add-result-2 c = search needs
-
-add-result-3 : tie.Need-add-result-3
-add-result-3 c = search needs
-
 -- no address is wider than 24 bits
 small : (c : tie.After-address-width2) → (c .before .address-width .result ≤ 24) × (c .address-width2 .result ≤ 24)
 small c =
     let a = c .before .before .args in
     (width-le-24 (a .to) (c .before .address-width .ensures), width-le-24 (a .from) (c .address-width2 .ensures))
 
+add-result-2 : tie.Need-add-result-2
+add-result-2 c = omega (arith, small c)
+
+add-result-3 : tie.Need-add-result-3
+add-result-3 c = omega (arith, small c)
+
 add-result-4 : tie.Need-add-result-4
 add-result-4 c = omega (arith, small c)
-
-add-result-5 : tie.Need-add-result-5
-add-result-5 c = omega (arith, small c)
-
-add-result-6 : tie.Need-add-result-6
-add-result-6 c = omega (arith, small c)
-
-add-result-7 : tie.Need-add-result-7
-add-result-7 c = omega (arith, small c)
-
-add-result-8 : tie.Need-add-result-8
-add-result-8 c = omega (arith, small c)
-
-add-result-9 : tie.Need-add-result-9
-add-result-9 c = omega (arith, small c)
 
 returns : tie.Need-returns
 returns c = search needs
@@ -61,9 +46,4 @@ header-bits-spec =
     add-result-2
     add-result-3
     add-result-4
-    add-result-5
-    add-result-6
-    add-result-7
-    add-result-8
-    add-result-9
     returns)
