@@ -19,7 +19,8 @@ rest-small v w h = rw (ones-of w (omega arith)) (mod-lt v (pow-pos w))
 pub none-left : (ws vs : List ℕ) → length ws ≡ length vs → Whole (drop (length ws) ws) (drop (length ws) vs) 0
 none-left ws vs e = rw (drop-length ws) (record { narrow = tt; fit = tt; size = refl; few = omega arith })
 
-pub one-more : (ws vs : List ℕ) (i j : ℕ) → i ≡ suc j → i ≤ length ws → length ws ≡ length vs → {n w : ℕ} → w ≡ getD ws j 0 → w ≤ 56 → getD vs j 0 < 2 ^ w
+pub one-more : (ws vs : List ℕ) (i j : ℕ) → i ≡ suc j → i ≤ length ws → length ws ≡ length vs → {n w : ℕ}
+    → w ≡ getD ws j 0 → w ≤ 56 → getD vs j 0 < 2 ^ w
     → Whole (drop i ws) (drop i vs) n → Whole (drop j ws) (drop j vs) (n + w)
 one-more ws vs i j e h l {n} {w} g a z k =
     let m : Whole (drop (suc j) ws) (drop (suc j) vs) n = rw e at k in

@@ -1,14 +1,15 @@
 // Answers call records on `bits` from standard input, a line for each: what the stored vectors are run by.
 //
-// A record is two bytes length of what follows, two bytes kind, body; numbers have their low byte first. The kind is the
-// call, 1 to 10, and the body has:
+// A record is two bytes length of what follows, two bytes kind, body; numbers have their low byte first. The kind is
+// the call, 1 to 10, and the body has:
 //     0 2 4    three numbers of two bytes: x, y, z
 //     6        a value of eight bytes: v
 //     14       the length of the first of two runs of lent bytes, a byte
 //     15       the two runs: s, and t, the rest
 // The calls, and what each writes on its line:
 //     1 get(s, x, y)   2 get8(s, x, y)   3 get32(s, x, y)    the number
-//     4 put(s, x, y, v)   5 put_all(s, x, the parts in t)   6 copy(t, x, s, y, z)   7 clear(s, x, y)   8 fill(s, x, y)    the bytes of s
+//     4 put(s, x, y, v)   5 put_all(s, x, the parts in t)   6 copy(t, x, s, y, z)   7 clear(s, x, y)
+//     8 fill(s, x, y)    the bytes of s
 //     9 last_one(s, x, y)    the place, or `none`
 //     10 a DMAC-END that carries the y bits of t from bit x on, and fill    its 34 bytes
 // `range` stands for what `bits` does not take, `call` for a call that there is not, and `cut` for a record that the
@@ -122,7 +123,8 @@ fn next() -> bool {
     }
 }
 
-// A proved loop has to end, and nothing says that the input does: the turns are counted down from more than a run takes.
+// A proved loop has to end, and nothing says that the input does: the turns are counted down from more than a run
+// takes.
 fn main() {
     let mut turns = u64::MAX;
     while 0 < turns && next() {

@@ -1,6 +1,5 @@
 // The layout of a fragmented message over slots.
 ghost use mathlib.Core.Path.{_≡_};
-ghost use Prim.Native.Nat.{_≤_};
 ghost use Rattle.blocks.specs.Slots.{dueFrame, dueOf};
 use crate::fault::Fault;
 
@@ -13,14 +12,13 @@ pub struct Due {
 
 // The frame of block `i`, from 0, after a header in frame `x` with countdown `f`.
 pub fn frame_of(x: u8, f: u8, i: u8) -> u8
-    requires { ⌜ (x ≤ 18) × (f ≤ 3) × (i ≤ 14) ⌝ }
     ensures { λ r. ⌜ r ≡ dueFrame x f i ⌝ }
 {
-    let y = (x + f) % 18 + 1;
+    let y = ((x as u32) + (f as u32)) % 18 + 1;
     if y == 18 {
         return i % 17 + 1;
     }
-    (y - 1 + i) % 17 + 1
+    ((y - 1 + (i as u32)) % 17 + 1) as u8
 }
 
 // The frame of block `i`, from 0, of a message whose header stands in frame `x` with countdown `f`.

@@ -95,7 +95,7 @@ pub(crate) fn width_at(s: &[u8], at: usize, message: u8) -> usize
     (e.width as usize) + first + second
 }
 
-// The most bits that an entry's elements have: 21, and 24 that hang on flags.
+// No entry's elements have more bits: at most 21, and at most 24 that hang on flags.
 const WIDEST: usize = 45;
 
 // Whether a run of elements is one that the table has for this message type; one without entry is not tested.

@@ -7,6 +7,7 @@ ghost use Rattle.history.specs.Line.{start};
 ghost use Rattle.bookings.specs.Kept.{bookingsAt, Reached, isIn, enteredIn};
 ghost use Rattle.bookings.specs.Book.{lent, readingOf, Books};
 use blocks::fault::Fault;
+use blocks::header::Address;
 use blocks::header::Fields;
 use transport::Transport;
 
@@ -71,7 +72,7 @@ fn push(pairs: &mut [u32], pair: u32)
 fn reading(fields: Fields, n: usize, sdu: &[u8]) -> Transport
     ensures { λ r. ⌜ r ≡ readingOf (lent fields n (now (sdu .entry))) ⌝ }
 {
-    if fields.source.ssi < 16777216 {
+    if fields.source.ssi < Address::END {
         return transport::read(fields, n, sdu);
     }
     transport::refused(Fault::RANGE)

@@ -13,19 +13,17 @@ use Rattle.blocks.specs.declared.continuation.Continuation.{Continuation}
 use Rattle.blocks.specs.declared.slots.Due.{Due}
 use Rattle.build.specs.Build.{schS, schH}
 use Rattle.build.specs.declared.Built.{Built}
-use Rattle.history.specs.Line.{Line, start}
-use Rattle.reports.specs.Lent.{Lent, Event}
-use Rattle.reports.specs.declared.unit.Settings.{Settings}
+use Rattle.reports.specs.Lent.{Lent}
 use Rattle.receiver.specs.View.{freshOf}
 use Rattle.receiver.specs.Reached.{Hears}
 use Rattle.receiver.specs.declared.Receiver.{Receiver}
 use Rattle.receiver.specs.declared.Reply.{Reply}
 use Rattle.receiver.specs.declared.Fresh.{Fresh}
-use Rattle.demands.specs.Calls.{Calls, begun, HearCall, Made}
+use Rattle.demands.specs.Calls.{begun, HearCall, Made}
 use Rattle.demands.specs.Demand1.{Reads, ReadsReported, ReadsBlock, LaysOut}
 use Rattle.demands.specs.Demand2.{Call, k, answer, after, headerBack, schF, blockBack, Buildable, again}
 use Rattle.demands.specs.Demand2.{Rebuildable, Rebuilt}
-use Rattle.demands.specs.OfCalls.{BuildsAs, BeginsAs, Hearing, HearsAs}
+use Rattle.demands.specs.OfCalls.{BuildsAs, BeginsAs, HearsAs}
 use Rattle.demands.proofs.ReportedLaws.{reported-reads}
 use Rattle.demands.proofs.Demand1Holds.{demand1}
 use Rattle.demands.proofs.Demand2Holds.{demand2}

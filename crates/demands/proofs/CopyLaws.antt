@@ -5,14 +5,14 @@ use mathlib.Core.Bool.{true, false}
 use Prim.Native.Nat.{ℕ, _+_}
 use lib.ListN.{length, take}
 use Rattle.store.specs.Store.{halves}
-use Rattle.history.specs.Line.{Line, start, _▸_, _⧺_}
+use Rattle.history.specs.Line.{start, _▸_, _⧺_}
 use Rattle.history.specs.Slots.{next, Header, Heard, nothing, fragmented, unfragmented, frag, end, Report}
 use Rattle.history.specs.Slots.{header-in, countdown-in, is-fragmented}
 use Rattle.history.specs.History.{History, final, InTurn, Unbroken, frames, Copies}
 use Rattle.history.specs.declared.Place.{Place}
 use Rattle.history.proofs.Lines.{made-of, each-⧺}
 use Rattle.history.proofs.Verdicts.{absurd-bool}
-use Rattle.reports.specs.Lent.{Lent, schHIn, rawOf, headerFrom, headerIn, BringsShort}
+use Rattle.reports.specs.Lent.{Lent, schHIn, rawOf, headerFrom, headerIn}
 use Rattle.reports.proofs.Readings.{well-read}
 use Rattle.reports.proofs.FlagLaws.{same-bits, heard-short, short-heard}
 use Rattle.receiver.specs.Reached.{reportOf, reports}
@@ -51,7 +51,8 @@ module _ (c : HearCall) where
       let i = k .is-earlier in
       let p = made-of (reportOf s) (c .earlier) (i .before) (e .since) (i .report) (i .split) in
       let l = p .member in
-      let w : header-in (i .report .heard) .for-us ≡ true = ap (λ (h : Header). h .for-us) (i .brings .0) ∙ i .brings .2 in
+      let w : header-in (i .report .heard) .for-us ≡ true =
+      ap (λ (h : Header). h .for-us) (i .brings .0) ∙ i .brings .2 in
       let z : i .report .heard ≡ unfragmented (header-in (i .report .heard)) (countdown-in (i .report .heard)) =
       short-is (i .report .heard) w (k .alike) in
       let there = heard-short s l _ _ (ap (λ (r : Report). r .heard) (sym (p .member-is)) ∙ z) w in

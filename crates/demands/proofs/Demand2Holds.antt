@@ -10,14 +10,14 @@ use lib.Dec.{leb}
 use lib.ListN.{length, take, drop, length-take, length-append}
 use lib.Seq.{take-all, take-at, drop-drop}
 use borrow.Author.Tests.{le-leb, lt-leb, lt-ltb, le-ltb, eq-eqb, leb-true}
-use Rattle.bits.specs.Bits.{bitsN, bitsOf, field, AllBytes}
+use Rattle.bits.specs.Bits.{bitsN, bitsOf}
 use Rattle.bits.specs.Fill.{filled}
-use Rattle.bits.specs.Layout.{pack, element}
+use Rattle.bits.specs.Layout.{pack}
 use Rattle.bits.proofs.Bytes.{length-bitsOf, length-bytesN, bitsOf-bytesN}
 use Rattle.bits.proofs.Filling.{filled-none}
 use Rattle.blocks.specs.Widths.{entryOf, widthOf, runFits}
 use Rattle.blocks.specs.Sdu.{fillTold}
-use Rattle.blocks.specs.Sync.{syncLayout, syncParts, syncOf}
+use Rattle.blocks.specs.Sync.{syncParts, syncOf}
 use Rattle.blocks.specs.Header.{sduAt, fieldsOf, headerOf, readHeader}
 use Rattle.blocks.specs.Faults.{GivenFirst}
 use Rattle.blocks.specs.declared.header.Header.{Header}
@@ -29,7 +29,6 @@ use Rattle.build.specs.Plan.{fragmentedFor, blocksFor, buildFault}
 use Rattle.build.specs.Build.{shapeFor, headerParts, headerBlock, continuationBlock, continuationBlocks, builtBits}
 use Rattle.build.specs.Build.{builtAs, buildOf, outOf, schS, schH, cutBlocks, schFs, readAll, expected, blockBits}
 use Rattle.build.specs.Build.{lastWhen}
-use Rattle.build.specs.declared.Built.{Built}
 use Rattle.blocks.proofs.FaultLaws.{given-first}
 use Rattle.build.proofs.RangeLaws as fields
 use Rattle.build.proofs.BuiltLaws as laws
@@ -37,8 +36,8 @@ use Rattle.build.proofs.OutputLaws.{built-fault}
 use Rattle.build.proofs.JoinLaws.{built-reads, built-blocks, built-joined}
 use Rattle.build.proofs.RebuildLaws.{read-is, in-range-again, fits-header, rebuilt, length-s, length-h}
 use Rattle.demands.specs.Demand2.{Call, bits, h, k, answer, after, InRange, checks, built, laidOut, headerBack}
-use Rattle.demands.specs.Demand2.{schF, blockBack, headerMessage, padded, Buildable, WellBuilt, Rebuildable, again, Rebuilt}
-use Rattle.demands.specs.Demand2.{Demand2}
+use Rattle.demands.specs.Demand2.{schF, blockBack, headerMessage, padded, Buildable, WellBuilt, Rebuildable}
+use Rattle.demands.specs.Demand2.{again, Rebuilt, Demand2}
 
 -- a room that the message fills has no fill
 full-room : (room : ℕ) (m : List Bool) → length m ≡ room → (fillTold room m ≡ 0) × (filled room m ≡ m)

@@ -173,7 +173,8 @@ is-nothing (frag b) = false
 is-nothing (end b) = false
 
 -- a report that brings nothing is told of as nothing
-unheard : {hs : History} {r : Report} {n : ℕ} {g : Fields} {m : List Bool} → Told hs r n g m → r .heard ≡ nothing → n ≡ 0
+unheard : {hs : History} {r : Report} {n : ℕ} {g : Fields} {m : List Bool} → Told hs r n g m → r .heard ≡ nothing
+    → n ≡ 0
 unheard (nothing-told s j o k y) e = refl
 unheard (single-told g m c) e = absurd-bool (ap is-nothing (sym (c .holds) ∙ e))
 unheard (joined-told g m c) e = absurd-bool (ap is-nothing (sym (c .holds) ∙ e))

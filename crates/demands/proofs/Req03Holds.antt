@@ -1,9 +1,9 @@
 -- Request 03 holds. Assumes nothing.
-use mathlib.Core.Path.{_≡_, refl, sym, ap, subst, _∙_}
+use mathlib.Core.Path.{_≡_, sym, ap, subst, _∙_}
 use mathlib.Core.Bool.{true}
-use Prim.Native.Nat.{ℕ, zero, suc, _+_}
+use Prim.Native.Nat.{ℕ, _+_}
 use native.Mathlib.Omega.{arith}
-use Rattle.history.specs.Line.{Line, _▸_, _⧺_}
+use Rattle.history.specs.Line.{_▸_, _⧺_}
 use Rattle.history.specs.Slots.{Header, Heard, unfragmented, header-in, countdown-in, is-fragmented, Report}
 use Rattle.history.specs.History.{History, NotFragmented, frames, Earlier, Copies}
 use Rattle.history.specs.Once.{Repeated, Original}
@@ -12,11 +12,9 @@ use Rattle.history.proofs.Lines.{made-of}
 use Rattle.history.proofs.Theorems.{theorem-copy}
 use Rattle.history.proofs.OnceHolds.{theorem-again, theorem-original}
 use Rattle.history.proofs.SevenHolds.{seven-are-needed}
-use Rattle.reports.specs.Lent.{Event, heard}
-use Rattle.reports.specs.declared.unit.Settings.{Settings}
+use Rattle.reports.specs.Lent.{heard}
 use Rattle.reports.proofs.FlagLaws.{same-alike}
-use Rattle.receiver.specs.Reached.{reportOf, refusedWith, Listed}
-use Rattle.receiver.specs.declared.Receiver.{Receiver}
+use Rattle.receiver.specs.Reached.{reportOf}
 use Rattle.receiver.proofs.AcceptedLaws.{listed}
 use Rattle.demands.specs.Calls.{HearCall, history, current, answer, Taken}
 use Rattle.demands.specs.Demand3.{HandsNothing}

@@ -82,8 +82,8 @@ pub record ReportAccepted (c : HearCall) : Type 0 where
   pub dropped : answer c .dropped ≤ 1
   pub fault : answer c .fault ≡ faultIn (c .report)
 
--- Hearing a report. It is refused with the number of the first rule that does not hold, and accepted where all hold; the
--- fault tells which: the one of an accepted report is never 1 or 13 to 17.
+-- Hearing a report. It is refused with the number of the first rule that does not hold, and accepted where all hold;
+-- the fault tells which: the one of an accepted report is never 1 or 13 to 17.
 pub record SettlesReport (c : HearCall) : Type 0 where
   pub refused : (n : ℕ) → GivenFirst n (rules c) → ReportRefused c (suc n)
   pub accepted : firstOf (rules c) ≡ 0 → ReportAccepted c

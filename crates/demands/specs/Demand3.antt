@@ -48,8 +48,8 @@ pub record HandsNothing (c : HearCall) : Type 0 where
   pub buffer : c .new ≡ c .old
 
 -- The report's header is a copy, said of the lent bytes: an earlier report brought such a header too, with no break
--- since; the bits of the two SCH/H are the same but for those of the countdown; and the earlier countdown is the new one
--- plus the frames gone by.
+-- since; the bits of the two SCH/H are the same but for those of the countdown; and the earlier countdown is the new
+-- one plus the frames gone by.
 pub record CopiesBits (c : HearCall) : Type 0 where
   pub before : Line Event
   pub first : Lent
@@ -85,8 +85,8 @@ pub record Answers (c : HearCall) : Type 0 where
   -- There is no other outcome, and with 0, 3, 4 and 5 nothing is handed over.
   pub six : answer c .outcome ≤ 5
   pub quiet : (answer c .outcome ≡ 1 → ⊥) → (answer c .outcome ≡ 2 → ⊥) → HandsNothing c
-  -- The dropped mark is 1 exactly when an open run ends here without being handed over, and 0 otherwise. With outcomes 2
-  -- and 4, where a block of an open run has come in its due slot, it is 0.
+  -- The dropped mark is 1 exactly when an open run ends here without being handed over, and 0 otherwise. With outcomes
+  -- 2 and 4, where a block of an open run has come in its due slot, it is 0.
   pub dropped : (answer c .dropped ≡ 1) ↔ Drops (history c) (current c)
   pub mark : answer c .dropped ≤ 1
   pub in-time : (answer c .outcome ≡ 2) ⊎ (answer c .outcome ≡ 4) → answer c .dropped ≡ 0

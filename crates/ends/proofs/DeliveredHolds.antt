@@ -1,16 +1,16 @@
 -- The law of the calls holds. Assumes nothing.
 use mathlib.Core.Path.{_≡_, refl, sym, ap, ap₂, _∙_, subst}
 use mathlib.Core.Bool.{Bool, true, false, cond}
-use mathlib.Core.List.{List, []}
+use mathlib.Core.List.{List}
 use Prim.Native.Nat.{ℕ, suc, _≤_, _<_}
 use native.Mathlib.Omega.{arith}
 use lib.Dec.{eqb}
-use lib.ListN.{take, replicate, length-replicate}
+use lib.ListN.{take, replicate}
 use Rattle.bits.specs.Bits.{bitsOf}
 use Rattle.blocks.specs.declared.header.Fields.{Fields}
 use Rattle.store.proofs.Messages.{handed-bits}
 use Rattle.history.specs.Line.{Line, start, _▸_, _⧺_, Every}
-use Rattle.history.specs.Slots.{next, no-fields, Report}
+use Rattle.history.specs.Slots.{next, Report}
 use Rattle.history.specs.History.{History, final, Copies}
 use Rattle.history.specs.Step.{Outcome, quiet, single, joined, opened, kept, copy, Answer, answer, number, message-of}
 use Rattle.history.specs.Step.{fields-of, after, outcome-at, dropped-at}

@@ -7,7 +7,7 @@ use mathlib.Core.List.{List, [], _∷_, _++_, append-assoc, append-nil}
 use lib.Dec.{eqb, leb}
 use lib.ListN.{length, take, drop, length-append, length-take, length-drop}
 use lib.Seq.{take-at, drop-at, drop-drop}
-use borrow.Author.Tests.{eq-eqb, leb-true, leb-false}
+use borrow.Author.Tests.{leb-true, leb-false}
 use Rattle.bits.specs.Bits.{testBit, bitsN, bitsOf, over}
 use Rattle.bits.specs.Layout.{Part, part, pack, partsWith}
 use Rattle.bits.specs.Runs.{joined}
@@ -15,11 +15,9 @@ use Rattle.bits.proofs.Numbers.{length-bitsN}
 use Rattle.bits.proofs.Bytes.{length-bitsOf, length-bytesN}
 use Rattle.bits.proofs.Over.{over-right, over-left, over-all}
 use Rattle.bits.proofs.Packing.{length-pack, pack-append}
-use Rattle.blocks.specs.Faults.{firstOf}
 use Rattle.blocks.specs.Sdu.{bitsIn, fillTold}
-use Rattle.blocks.specs.Sync.{syncOf, syncChecks}
-use Rattle.blocks.specs.Header.{addressWidth, sduAt, fragmentedIn, bodyOf, messageOf, placeRules, bodyChecks}
-use Rattle.blocks.specs.Header.{headerFault, headerOf, answered, readHeader, readReported}
+use Rattle.blocks.specs.Header.{addressWidth, sduAt, fragmentedIn, bodyOf, messageOf}
+use Rattle.blocks.specs.Header.{headerOf, readHeader, readReported}
 use Rattle.blocks.specs.Continuation.{blockMessage, readContinuation}
 use Rattle.blocks.specs.Slots.{fitsHeader, inHeader}
 use Rattle.build.specs.Plan.{headerBits, fragmentedFor, blocksFor, buildFault}
@@ -45,7 +43,6 @@ use Rattle.blocks.specs.declared.sync.Sync.{Sync}
 use Rattle.blocks.specs.declared.header.Fields.{Fields}
 use Rattle.blocks.specs.declared.header.Header as read
 use Rattle.blocks.specs.declared.continuation.Continuation.{Continuation}
-use Rattle.blocks.proofs.FaultLaws.{chain-none}
 use Rattle.build.proofs.RangeLaws.{InRange, in-range}
 use Rattle.build.proofs.BuiltLaws.{header-bits}
 use Rattle.build.proofs.OutputLaws.{built-fault}

@@ -41,8 +41,8 @@ sent-lent m b ls = (start ▸ header-lent m b) ⧺ ls
 
 -- A message for this unit, its reports heard after others, whatever they were.
 pub record Arrives (s : Settings) (m : Message) (b : Build m) (before : Line Event) : Type 0 where
-  -- All of it heard: exactly that message is handed over, exactly once. One that goes into the header is not where it is
-  -- a copy of what was heard before.
+  -- All of it heard: exactly that message is handed over, exactly once. One that goes into the header is not where it
+  -- is a copy of what was heard before.
   pub once : (k m ≡ 0 → Copies (reports s before) (header-report s m b) → ⊥) → {ls : Line Lent} {cs : Line HearCall}
       → Sent s m b ls (k m) → Hearing s before (sent-lent m b ls) cs
       → handed-by cs ≡ start ▸ record { fields = m .fields; bits = bits m }

@@ -6,7 +6,7 @@ use Prim.Native.Nat.{ℕ, _^_, _<_}
 use borrow.Author.Tests.{lt-ltb}
 use Rattle.bits.proofs.Numbers.{fits-in}
 use Rattle.blocks.proofs.HeaderLaws.{addressWidth-le}
-use Rattle.history.specs.Line.{Line, start, _▸_, _⧺_, each, Every}
+use Rattle.history.specs.Line.{Line, start, _▸_, _⧺_, each}
 use Rattle.history.specs.History.{History}
 use Rattle.history.proofs.Lines.{never, every-parts, each-⧺}
 use Rattle.reports.specs.declared.unit.Settings.{Settings}

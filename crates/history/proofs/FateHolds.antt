@@ -157,7 +157,9 @@ module _ (before : History) (o : Report) (y : Opens o) (k : IsAcknowledged (y .h
       }
 
   one-of-two : {since : History} {u : Run} → Still before o since u → IsAcknowledged (u .header .fields .message)
-  one-of-two s = subst (λ (x : Heard). IsAcknowledged (header-in x .fields .message)) (sym (y .holds) ∙ ap (λ (r : Report). r .heard) (both (own s) .1)) k
+  one-of-two s =
+      subst (λ (x : Heard). IsAcknowledged (header-in x .fields .message))
+      (sym (y .holds) ∙ ap (λ (r : Report). r .heard) (both (own s) .1)) k
 
   grows-fate : {since : History} (r : Report) (u : Run) (s : Still before o since u)
       → Next ((before ▸ o) ⧺ since) u r → HasFate before o (since ▸ r)

@@ -123,10 +123,9 @@ brings-read z r =
 
 -- ---- what the code asks for on the way
 
-older-small : (turn : Bool) (tick : Place) (a : Open) → (a .frame ≤ 18) × (a .countdown ≤ 3) × (a .kept ≤ 14)
-    → (let o = older-run turn tick a in (o .frame ≤ 18) × (o .countdown ≤ 3) × (o .kept ≤ 14))
+older-small : (turn : Bool) (tick : Place) (a : Open) → a .kept ≤ 14 → older-run turn tick a .kept ≤ 14
 older-small true tick a h = h
-older-small false tick a h = (omega arith, omega arith, omega arith)
+older-small false tick a h = omega arith
 
 older-few : (turn : Bool) (ns : List Near) → length ns ≤ 7 → length (older-near turn ns) ≤ 7
 older-few true ns h = h
@@ -141,10 +140,10 @@ module _ {before : Receiver} (k : Reached before) (turn : Bool) where
   kept-small = small (k .settings) (k .heard) (k .leads .accepted)
 
   pub run-small : (tick : Place) {run : Open} → run ≡ older-run turn tick (before .assembly .run)
-      → (run .frame ≤ 18) × (run .countdown ≤ 3) × (run .kept ≤ 14)
+      → run .kept ≤ 14
   run-small tick e =
       let z = kept-small in
-      rw (e, k .leads .there) (older-small turn tick _ (z .frame, z .falls, omega (arith, z .blocks, z .slots)))
+      rw (e, k .leads .there) (older-small turn tick _ (omega (arith, z .blocks, z .slots)))
 
   pub bits-small : {bits : ℕ} → bits ≡ cond turn (before .assembly .bits) 0 → bits + 264 ≤ 4096
   bits-small e =

@@ -1,12 +1,12 @@
 -- What reading the blocks of an accepted report may give as a fault; with a fault it brings nothing. Assumes nothing.
-use mathlib.Core.Path.{_≡_, refl, sym, subst}
+use mathlib.Core.Path.{_≡_, refl, sym}
 use mathlib.Core.Bool.{Bool, true, false, cond, _&&_, _||_}
 use mathlib.Core.List.{List, [], _∷_, _++_}
 use mathlib.Core.Logic.{_⊎_, inl, inr}
 use Prim.Native.Nat.{ℕ, zero, suc, _+_, _≤_}
 use native.Mathlib.Omega.{arith}
 use lib.Dec.{eqb, leb, T}
-use lib.ListN.{length, take, drop, length-take, length-drop}
+use lib.ListN.{length, take, length-take, length-drop}
 use borrow.Author.Tests.{eq-eqb, eqb-true, leb-true}
 use Rattle.blocks.specs.Faults.{unless, firstOf}
 use Rattle.bits.specs.Bits.{bitsOf, field}

@@ -8,7 +8,7 @@ use lib.Dec.{eqb}
 use lib.ListN.{length, take, drop, length-drop}
 use lib.Seq.{length-take-le}
 use borrow.Author.Tests.{eqb-true, eqb-false}
-use Rattle.bits.specs.Bits.{bitsOf, over, num}
+use Rattle.bits.specs.Bits.{bitsOf, num}
 use Rattle.bits.proofs.Numbers.{num-lt, take-of-drop}
 use Rattle.bits.proofs.Bytes.{length-bitsOf}
 use Rattle.bits.proofs.Over.{length-over, over-take}

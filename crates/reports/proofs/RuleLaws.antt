@@ -29,5 +29,10 @@ module _ (frame slot kind lent buffer : ℕ) where
   -- and the other way round
   pub report-passes : ReportHolds frame slot kind lent buffer → firstOf (reportRules frame slot kind lent buffer) ≡ 0
   report-passes k =
-      rw (le-leb 1 frame (k .first-frame), le-leb frame 18 (k .last-frame), k .slot, k .kind, le-leb 512 buffer (k .buffer))
-      refl
+      rw (
+        le-leb 1 frame (k .first-frame),
+        le-leb frame 18 (k .last-frame),
+        k .slot,
+        k .kind,
+        le-leb 512 buffer (k .buffer),
+      ) refl

@@ -93,7 +93,7 @@ fn header(settings: Settings, q: Place, blocks: &[u8]) -> Brought
         fields: same_fields(fields),
         more: x.count - x.fragmented,
         countdown: x.countdown,
-        from: SchS::BYTES * 8 + x.first,
+        from: SchS::LENT + x.first,
         bits: x.bits,
     }
 }

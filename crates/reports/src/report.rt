@@ -7,6 +7,9 @@ use blocks::sizes::SchF;
 use blocks::sizes::SchH;
 use blocks::sizes::SchS;
 
+// The bytes that a message's buffer has at least: enough for every message that is handed over.
+const BUFFER: usize = 512;
+
 // What a report brings.
 pub struct Kind {}
 
@@ -63,7 +66,7 @@ pub fn report_rules(frame: u8, slot: u8, kind: u8, lent: usize, buffer: usize) -
     if !brings(kind, lent) {
         return Fault::LENGTH;
     }
-    if buffer < 512 {
+    if buffer < BUFFER {
         return Fault::BUFFER;
     }
     0

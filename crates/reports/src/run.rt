@@ -51,7 +51,6 @@ pub fn older_run(turn: bool, q: Place, a: Open) -> Open
 
 // Whether slot `q` is due for its next block.
 pub(crate) fn is_due(a: Open, q: Place) -> bool
-    requires { ⌜ (a .frame ≤ 18) × (a .countdown ≤ 3) × (a .kept ≤ 14) ⌝ }
     ensures { λ r. ⌜ r ≡ is-due a q ⌝ }
 {
     if a.held != 1 {

@@ -2,6 +2,7 @@
 ghost use mathlib.Core.Path.{_≡_};
 ghost use Rattle.reports.specs.Lent.{for-unit};
 ghost use Rattle.reports.specs.Units.{fit};
+use blocks::header::Address;
 use blocks::header::Fields;
 
 // One individual address, one group address and one MNI, each below 2^24.
@@ -14,7 +15,7 @@ pub struct Settings {
 
 impl Settings {
     // The largest that each can be.
-    pub const MOST: u32 = 16777215;
+    pub const MOST: u32 = Address::END - 1;
 
     // Whether each of them is below 2^24.
     pub fn fit(self) -> bool

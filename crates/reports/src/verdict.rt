@@ -139,8 +139,7 @@ fn is(what: What, other: What) -> bool
 
 // By what the report in slot `q` brings, over what is left of the open run and of the earlier headers.
 pub fn judge(x: Brought, a: Open, places: &[u64], count: usize, q: Place, lost: bool) -> Verdict
-    requires { ⌜ ((a .frame ≤ 18) × (a .countdown ≤ 3) × (a .kept ≤ 14))
-        × (count ≤ 7) × (length (now places) ≡ 21) ⌝ }
+    requires { ⌜ (count ≤ 7) × (length (now places) ≡ 21) ⌝ }
     ensures { λ r. ⌜ Judged x a (now (places .entry)) count q lost r ⌝ }
 {
     let due = is_due(a, q);

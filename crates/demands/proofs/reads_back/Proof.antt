@@ -13,7 +13,9 @@ same-length : tie.Need-same-length
 same-length c = search needs
 
 returns : tie.Need-returns
-returns c = reads-back _ (c .before .before .before .before .build .ensures .1) (c .header-of .ensures) (c .before .before .before .before .before .before .before .before .pre)
+returns c =
+    let b = c .before .before .before .before in
+    reads-back _ (b .build .ensures .1) (c .header-of .ensures) (b .before .before .before .before .pre)
 
 pub reads-back-spec : {M : Type 1} → statement M
 reads-back-spec = tie.close (tie.spec build-requires header-of-requires same-length returns)

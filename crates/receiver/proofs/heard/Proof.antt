@@ -10,7 +10,8 @@ headless-requires c κs = search needs
 returns : tie.Need-returns
 returns c =
     let a = c .before .before .before .args in
-    brings-fault (a .settings) (lent (a .q .frame) (a .q .slot) (a .kind) (a .blocks .now)) (c .before .if1 .taken) (c .headless .ensures)
+    brings-fault (a .settings) (lent (a .q .frame) (a .q .slot) (a .kind) (a .blocks .now)) (c .before .if1 .taken)
+    (c .headless .ensures)
 
 read-requires : tie.Need-read-requires
 read-requires c κs = c .before .before .pre (c .if1 .left)

@@ -23,7 +23,8 @@ add-if1 : tie.Need-add-if1
 add-if1 c =
     let a = c .before .before .before .before .before .before .before .before .before .args in
     let n = c .before .before .before .n .given in
-    let m = sized (a .widths .now) (a .values .now) (n .1) (c .before .before .before .before .before .measure .ensures) in
+    let m =
+    sized (a .widths .now) (a .values .now) (n .1) (c .before .before .before .before .before .measure .ensures) in
     omega arith
 
 same-length : tie.Need-same-length
@@ -36,7 +37,9 @@ put-all-requires : tie.Need-put-all-requires
 put-all-requires c κs =
     let a = c .before .before .before .before .before .before .before .before .before .before .before .args in
     let n = c .before .before .before .before .before .n .given in
-    let m = sized (a .widths .now) (a .values .now) (n .1) (c .before .before .before .before .before .before .before .measure .ensures) in
+    let m =
+    sized (a .widths .now) (a .values .now) (n .1)
+    (c .before .before .before .before .before .before .before .measure .ensures) in
     (omega arith, m .narrow, m .fit, record { ordered = omega arith; within = omega arith; near = omega arith })
 
 same-length-2 : tie.Need-same-length-2

@@ -15,7 +15,9 @@ abbrev μ-loop : tie.MeasureT-loop
 μ-loop widths values sum₀ i₀ sum i = i
 
 loop-holds : tie.Need-loop-holds Inv-loop μ-loop
-loop-holds c = (omega arith, none-left (c .before .before .args .widths .now) (c .before .before .args .values .now) (omega arith))
+loop-holds c =
+    let a = c .before .before .args in
+    (omega arith, none-left (a .widths .now) (a .values .now) (omega arith))
 
 sub-i : tie.Need-sub-i Inv-loop μ-loop
 sub-i c = search needs
@@ -44,7 +46,8 @@ returns-2 c = search needs
 add-sum : tie.Need-add-sum Inv-loop μ-loop
 add-sum c =
     let l = c .before .before .before .before .before .before .before .loop in
-    omega (arith, l .inv .1 .few, length-drop (l .i) (c .before .before .before .before .before .before .before .before .before .before .args .widths .now))
+    let a = c .before .before .before .before .before .before .before .before .before .before .args in
+    omega (arith, l .inv .1 .few, length-drop (l .i) (a .widths .now))
 
 loop-less : tie.Need-loop-less Inv-loop μ-loop
 loop-less c = search needs
@@ -55,7 +58,8 @@ loop-again c =
     let l = c .before .before .before .before .before .before .before .loop in (
       omega arith,
       one-more (a .widths .now) (a .values .now) (l .i) (l .i - 1) (omega arith) (omega arith) (omega arith)
-          (c .before .before .before .before .index .ensures .0) (omega arith) (rw (c .if2 .left) at (c .before .low .ensures)) (l .inv .1),
+          (c .before .before .before .before .index .ensures .0) (omega arith)
+          (rw (c .if2 .left) at (c .before .low .ensures)) (l .inv .1),
     )
 
 returns-3 : tie.Need-returns-3 Inv-loop μ-loop

@@ -26,10 +26,13 @@ add-result-2 c = search needs
 add-result-3 : tie.Need-add-result-3
 add-result-3 c = search needs
 
+cast-result : tie.Need-cast-result
+cast-result c = search needs
+
 returns-2 : tie.Need-returns-2
 returns-2 c = rw (due-closed _ _ _) (search tests)
 
 pub frame-of-spec : {M : Type 1} → statement M
 frame-of-spec =
     tie.close
-    (tie.spec add-y add-y-2 add-result returns sub-result add-result-2 add-result-3 returns-2)
+    (tie.spec add-y add-y-2 add-result returns sub-result add-result-2 add-result-3 cast-result returns-2)

@@ -44,11 +44,6 @@ slice-aggregate-judge c = search needs
 
 judge-requires : tie.Need-judge-requires
 judge-requires c κs = (
-  let r = c .before .before .before .before .before .before .before in
-      let k = r .before .before .before in
-      let f = k .before in
-      let g = f .before .before .before .before .before in
-      run-small (g .pre .0) (f .in-turn .result) (k .ticking .result) (r .older-run .ensures),
   let n = c .before .before .before .before in
       let f = n .before .before .before .before .before .before .before in
       let g = f .before .before .before .before .before in
@@ -186,7 +181,7 @@ run-after-requires c κs =
     let f = k .before in
     let g = f .before .before .before .before .before in
     let s = run-small (g .pre .0) (f .in-turn .result) (k .ticking .result) (r .older-run .ensures) in
-    (x .heard .ensures .falls, s .2)
+    (x .heard .ensures .falls, s)
 
 bits-after-requires : tie.Need-bits-after-requires
 bits-after-requires c κs =

@@ -70,11 +70,8 @@ sub-t20 c =
     (r .before .before .before .before .pre) in
     omega arith
 
-mul-t21 : tie.Need-mul-t21
-mul-t21 c = search needs
-
-add-t22 : tie.Need-add-t22
-add-t22 c =
+add-t21 : tie.Need-add-t21
+add-t21 c =
     let r = c .before .before .before .before .before .before .before .before .before .before .before in
     let a = r .before .before .before .before .args in
     let f =
@@ -117,6 +114,5 @@ header-spec =
     without-two-requires
     same-fields-requires
     sub-t20
-    mul-t21
-    add-t22
+    add-t21
     returns-2)
