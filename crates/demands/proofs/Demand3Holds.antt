@@ -8,10 +8,14 @@ use native.Mathlib.Omega.{arith}
 use lib.ListN.{length}
 use Rattle.store.specs.Store.{handed}
 use Rattle.blocks.specs.declared.header.Fields.{Fields}
-use Rattle.history.specs.Line.{Line, start}
+use Rattle.history.specs.Line.{Line, start, count}
 use Rattle.history.specs.Slots.{Heard, nothing, fragmented, unfragmented, frag, end, no-fields, no-loss, Report}
+use Rattle.history.specs.Slots.{is-fragmented}
+use Rattle.history.specs.declared.Place.{Place}
+use Rattle.blocks.proofs.SlotLaws.{due-range}
 use Rattle.history.specs.Step.{dropped-at}
-use Rattle.history.specs.History.{History, Closes, Singles, Opens, Keeps, Copies, Told}
+use Rattle.history.specs.History.{History, Unbroken, NotFragmented, Run, next-due, Closes, Singles, Opens, Keeps}
+use Rattle.history.specs.History.{Copies, Ends, broken, other-header, missed, Told}
 use Rattle.history.specs.History.{IsAcknowledged, Loses, LostTold, one-lost}
 use Rattle.history.specs.History as history-of
 use Rattle.history.specs.History.{nothing-told, single-told, joined-told, opened-told, kept-told, copy-told}
@@ -193,6 +197,29 @@ module _ (c : HearCall) (t : Taken c) where
   in-time (inl e) = unmarked (over-mark (said c t e .holds))
   in-time (inr e) = unmarked (keep-mark (said c t e))
 
+  -- No block is due in frame 18.
+  not-due : (u : Run) → c .report .frame ≡ 18 → current c .place ≡ next-due u → ⊥
+  not-due u e d =
+      let r = due-range (u .place .frame) (u .countdown) (count (u .blocks)) .1 in
+      omega (arith, r, e, ap (λ (p : Place). p .frame) d)
+
+  never-18 : c .report .frame ≡ 18 → (answer c .outcome ≡ 2 → ⊥) × (answer c .outcome ≡ 4 → ⊥)
+  never-18 e = (
+    λ o. let x = said c t o .holds in not-due (x .run) e (x .in-due),
+    λ o. let x = said c t o in not-due (x .run) e (x .in-due),
+  )
+
+  kept-over-18 : c .report .frame ≡ 18 → Unbroken (history c) (current c .place) → NotFragmented (current c .heard)
+      → answer c .dropped ≡ 0
+  kept-over-18 e k n =
+      let d : answer c .dropped ≡ 1 → ⊥ = λ d. let x = given c t .dropped .0 d in ended (x .run) (x .ends) in
+      omega (arith, given c t .mark, d)
+    where
+      ended : (u : Run) → Ends (history c) u (current c) → ⊥
+      ended u (broken b) = b k
+      ended u (other-header h more f q r) = absurd-bool (sym n ∙ ap is-fragmented q)
+      ended u (missed d q r) = not-due u e d
+
   pub answers : Answers c
   answers =
       record {
@@ -210,6 +237,8 @@ module _ (c : HearCall) (t : Taken c) where
         dropped = given c t .dropped;
         mark = given c t .mark;
         in-time = in-time;
+        never-18 = never-18;
+        kept-over-18 = kept-over-18;
         lost = lost c t;
         none-lost = none-lost c t;
         fault = given c t .fault;

@@ -17,8 +17,8 @@ use Rattle.store.specs.Store.{handed}
 use Rattle.blocks.specs.declared.header.Fields.{Fields}
 use Rattle.history.specs.Line.{Line, _▸_, _⧺_, Every}
 use Rattle.history.specs.Slots.{no-fields, no-loss, Report}
-use Rattle.history.specs.History.{History, InTurn, frames, NotFragmented, Closes, Singles, Opens, Keeps, Copies, Drops}
-use Rattle.history.specs.History.{IsAcknowledged, Loses}
+use Rattle.history.specs.History.{History, InTurn, Unbroken, frames, NotFragmented, Closes, Singles, Opens, Keeps}
+use Rattle.history.specs.History.{Copies, Drops, IsAcknowledged, Loses}
 use Rattle.history.specs.declared.Lost.{Lost}
 use Rattle.reports.specs.Lent.{Lent, Event, uncounted, schHIn, headerIn, faultIn, BringsShort}
 use Rattle.reports.specs.declared.unit.Settings.{Settings}
@@ -90,6 +90,11 @@ pub record Answers (c : HearCall) : Type 0 where
   pub dropped : (answer c .dropped ≡ 1) ↔ Drops (history c) (current c)
   pub mark : answer c .dropped ≤ 1
   pub in-time : (answer c .outcome ≡ 2) ⊎ (answer c .outcome ≡ 4) → answer c .dropped ≡ 0
+  -- Frame 18 is no block's: none is kept or handed over there, and none is missed, so that a report next in turn that
+  -- brings no fragmented header drops nothing.
+  pub never-18 : c .report .frame ≡ 18 → (answer c .outcome ≡ 2 → ⊥) × (answer c .outcome ≡ 4 → ⊥)
+  pub kept-over-18 : c .report .frame ≡ 18 → Unbroken (history c) (current c .place) → NotFragmented (current c .heard)
+      → answer c .dropped ≡ 0
   -- The answer has three numbers of a lost message exactly when a run of a DM-SDS DATA or a DM-SDS ACK is dropped here,
   -- and they are its own: the source address of its header, its message type and the bits joined so far. Otherwise they
   -- are zeros.

@@ -6,11 +6,11 @@ use mathlib.Core.Logic.{_⊎_, inl, inr, ⊎-elim}
 use Prim.Native.Nat.{ℕ, zero, suc, _+_, _-_, _*_, _≤_, _<_}
 use native.Mathlib.Omega.{arith}
 use lib.Dec.{eqb, leb, ltb, lit<}
-use lib.ListN.{length, drop, length-append, length-drop, List·getD-append}
-use lib.Seq.{take-append-le, drop-append-le}
+use lib.ListN.{length, take, drop, length-append, length-drop, List·getD-append}
+use lib.Seq.{length-take-le, take-append-le, drop-append-le}
 use borrow.Author.Tests.{leb-true, eqb-true, eqb-false, ltb-true, ltb-false, eq-eqb, ne-eqb, lt-ltb, le-ltb}
 use Rattle.records.specs.Numbers.{twoAt}
-use Rattle.reports.specs.Lent.{Lent}
+use Rattle.reports.specs.Lent.{Lent, brought}
 use Rattle.slotlog.specs.Log.{bodyOf, isReport, wholeOf, nextIn, reportIn, isFirst, Entry, report, other, cut}
 use Rattle.slotlog.specs.Log.{entry, entriesFor, entries}
 use Rattle.slotlog.specs.declared.log.Next.{Next}
@@ -135,6 +135,7 @@ pub record ReportAt (w : List ℕ) (n : ℕ) : Type 0 where
   pub least : 6 ≤ n
   pub there : n ≤ length w
   pub kind : twoAt w 2 ≤ 3
+  pub lent : brought (twoAt w 2) (n - 6) ≡ true
 
 body-least : (kind : ℕ) → 1 ≤ kind → kind ≤ 3 → 2 ≤ bodyOf kind
 body-least kind a b = least-when (eqb kind 0) (eqb kind 1) (eqb kind 2) (eqb kind 3) refl refl refl refl
@@ -146,6 +147,23 @@ body-least kind a b = least-when (eqb kind 0) (eqb kind 1) (eqb kind 2) (eqb kin
     least-when false false true s e f g h = omega arith
     least-when false false false true e f g h = omega arith
     least-when false false false false e f g h =
+        let x = eqb-false kind 1 f in
+        let y = eqb-false kind 2 g in
+        let z = eqb-false kind 3 h in
+        absurd (omega arith)
+
+-- the bytes of a report after its frame and slot are those that its kind lends
+body-brought : (kind n : ℕ) → 1 ≤ kind → kind ≤ 3 → n ≡ bodyOf kind + 4 → brought kind (n - 6) ≡ true
+body-brought kind n a b e = go (eqb kind 0) (eqb kind 1) (eqb kind 2) (eqb kind 3) refl refl refl refl e
+  where
+    go : (p q r s : Bool) → eqb kind 0 ≡ p → eqb kind 1 ≡ q → eqb kind 2 ≡ r → eqb kind 3 ≡ s
+        → n ≡ cond p 12 (cond q 2 (cond r 26 (cond s 36 0))) + 4
+        → cond q (eqb (n - 6) 0) (cond r (eqb (n - 6) 24) (cond s (eqb (n - 6) 34) false)) ≡ true
+    go true q r s d f g h e = absurd (omega (arith, eqb-true kind 0 d))
+    go false true r s d f g h e = eq-eqb (n - 6) 0 (omega (arith, e))
+    go false false true s d f g h e = eq-eqb (n - 6) 24 (omega (arith, e))
+    go false false false true d f g h e = eq-eqb (n - 6) 34 (omega (arith, e))
+    go false false false false d f g h e =
         let x = eqb-false kind 1 f in
         let y = eqb-false kind 2 g in
         let z = eqb-false kind 3 h in
@@ -167,6 +185,7 @@ report-at w n e =
       least = omega (arith, z .1, body-least kind low high);
       there = omega (arith, z .1, k .1 .0, k .1 .1);
       kind = high;
+      lent = body-brought kind n low high (omega (arith, z .1, b));
     }
 
 pub report-least : (w : List ℕ) (n : ℕ) → nextIn w ≡ Report n → 6 ≤ n
@@ -291,3 +310,35 @@ entries-end w e = (entries-next w ∙ rw e refl, rw e at (left w))
 
 pub entries-part : (w : List ℕ) → nextIn w ≡ Part → (entries w ≡ cut ∷ []) × (1 ≤ length w)
 entries-part w e = (entries-next w ∙ rw e refl, rw e at (left w))
+
+-- ---- each report among the entries lends what its kind lends
+
+abbrev pub Lends : List Entry → Type 0
+Lends [] = Unit {0}
+Lends (report l ∷ es) = (brought (l .kind) (length (l .blocks)) ≡ true) × Lends es
+Lends (other ∷ es) = Lends es
+Lends (cut ∷ es) = Lends es
+
+report-lends : (w : List ℕ) (n : ℕ) → ReportAt w n → let l = reportIn n w in
+    brought (l .kind) (length (l .blocks)) ≡ true
+report-lends w n r =
+    let e : length (drop 6 (take n w)) ≡ n - 6 =
+    length-drop 6 (take n w) ∙ ap (λ (m : ℕ). m - 6) (length-take-le n w (r .there)) in
+    rw e (r .lent)
+
+entry-lends : (x : Next) (w : List ℕ) (more : List ℕ → List Entry) → nextIn w ≡ x → ((v : List ℕ) → Lends (more v))
+    → Lends (entry x w more)
+entry-lends End w more e h = tt
+entry-lends Part w more e h = tt
+entry-lends Cut w more e h = tt
+entry-lends (Other n) w more e h = h (drop n w)
+entry-lends (Report n) w more e h = (report-lends w n (report-at w n e), h (drop n w))
+
+lends-for : (k : ℕ) (w : List ℕ) → Lends (entriesFor k w)
+unfolding entriesFor
+lends-for zero w = tt
+lends-for (suc k) w = entry-lends (nextIn w) w (entriesFor k) refl (lends-for k)
+
+pub all-lend : (w : List ℕ) → Lends (entries w)
+unfolding entries
+all-lend w = lends-for (length w) w

@@ -1,14 +1,14 @@
 -- What the history asks for, of each reply to a slot log. `Told`, `Drops` and `LostTold` are read off the accepted
 -- reports, in crates/history/specs/History.antt; nothing here runs the step.
 use mathlib.Core.Path.{_≡_}
-use mathlib.Core.Logic.{_↔_}
+use mathlib.Core.Logic.{_↔_, _⊎_}
 use mathlib.Core.Bool.{Bool}
 use mathlib.Core.List.{List, [], _∷_}
 use Prim.Native.Nat.{ℕ, suc, _≤_}
 use lib.ListN.{length}
 use Rattle.history.specs.Line.{Line}
 use Rattle.history.specs.History.{Told, Drops, LostTold}
-use Rattle.reports.specs.Lent.{Lent, Event, faultIn}
+use Rattle.reports.specs.Lent.{Lent, Event, OfReading, faultIn}
 use Rattle.reports.specs.declared.unit.Settings.{Settings}
 use Rattle.receiver.specs.View.{plainAnswer}
 use Rattle.receiver.specs.Reached.{reportOf, reports}
@@ -26,10 +26,16 @@ pub record AnswerAsked (s : Settings) (ls : Line Event) (l : Lent) (a : Answer) 
   pub lost : LostTold (reports s ls) (reportOf s l) (a .lost)
   pub fault : a .fault ≡ faultIn l
 
+-- The fault of a line: one that reading a block may give, or 0; or 15 or 16. No record of another length than its
+-- kind's is a report, and the buffer is long enough, so that no report of a log is refused with 1 or 17.
+abbrev pub InLine : ℕ → Type 0
+InLine n = OfReading n ⊎ ((n ≡ 15) ⊎ (n ≡ 16))
+
 -- The answer to a report: to one that is refused it is the number, and zeros.
 pub record Asked (s : Settings) (ls : Line Event) (l : Lent) (a : Answer) : Type 0 where
   pub accepted : refusal l ≡ 0 → AnswerAsked s ls l a
   pub refused : (n : ℕ) → refusal l ≡ suc n → a ≡ plainAnswer 0 0 (suc n)
+  pub fault : InLine (a .fault)
 
 -- Each of the replies, one after another, for a unit with these settings that has heard these reports: a reply to a
 -- report is for this unit and these reports, and its answer is the one asked for; a report that is accepted was heard
