@@ -17,6 +17,9 @@ use blocks::header::Fields;
 use blocks::header::Header;
 use blocks::header::read_header;
 use blocks::header::read_reported;
+use blocks::sizes::SchF;
+use blocks::sizes::SchH;
+use blocks::sizes::SchS;
 use blocks::slots::Due;
 use blocks::slots::due_frame;
 use blocks::sync::Sync;
@@ -69,12 +72,15 @@ fn builds(
     build(sync, countdown, fields, n, message, out)
 }
 
+// The bytes of an output before its continuation blocks.
+const HEADER: usize = SchS::BYTES + SchH::BYTES;
+
 // The header of an output.
 fn header_of(out: &[u8]) -> Header
     requires { ⌜ 24 ≤ length (now out) ⌝ }
     ensures { λ r. ⌜ r ≡ readHeader (schS (now (out .entry))) (schH (now (out .entry))) ⌝ }
 {
-    read_header(&out[..8], &out[8..24])
+    read_header(&out[..SchS::BYTES], &out[SchS::BYTES..HEADER])
 }
 
 // The header of an output, reported in a frame and a slot.
@@ -82,7 +88,7 @@ fn reported_of(frame: u8, slot: u8, out: &[u8]) -> Header
     requires { ⌜ 24 ≤ length (now out) ⌝ }
     ensures { λ r. ⌜ r ≡ readReported frame slot (schS (now (out .entry))) (schH (now (out .entry))) ⌝ }
 {
-    read_reported(frame, slot, &out[..8], &out[8..24])
+    read_reported(frame, slot, &out[..SchS::BYTES], &out[SchS::BYTES..HEADER])
 }
 
 // Block `i` of an output.
@@ -90,8 +96,8 @@ fn block_of(out: &[u8], i: u8) -> Continuation
     requires { ⌜ 24 + 34 * i + 34 ≤ length (now out) ⌝ }
     ensures { λ r. ⌜ r ≡ readContinuation (schF i (now (out .entry))) ⌝ }
 {
-    let first = 24 + 34 * (i as usize);
-    read_continuation(&out[first..first + 34])
+    let first = HEADER + SchF::BYTES * (i as usize);
+    read_continuation(&out[first..first + SchF::BYTES])
 }
 
 // Demand 2 of `build` and then `read_header`: the header that is built reads back.
