@@ -6,6 +6,7 @@ use Prim.Native.Nat.{ℕ}
 use lib.Dec.{eqb, T, eqb→eq}
 use Rattle.bits.specs.Bits.{bit, num, bitsN, bitsOf, bytesN, testBit}
 use Rattle.bits.specs.Fill.{strip, before, filled, fillBits}
+use Rattle.bits.proofs.Tests.{both}
 use Rattle.blocks.specs.Widths.{entryOf, widthOf, runFits}
 use Rattle.blocks.specs.Sync.{syncOf, syncChecks}
 use Rattle.blocks.specs.Header.{fragmentedIn, toIn, fromIn, messageIn, widthIn, bodyOf, readHeader}
@@ -23,10 +24,6 @@ same (x ∷ xs) (y ∷ ys) = eqb x y && same xs ys
 abbrev pub agree : List Example → Bool
 agree [] = true
 agree (e ∷ es) = same (e .given) (e .stated) && agree es
-
-both : (a b : Bool) → T (a && b) → T a × T b
-both true b t = (tt, t)
-both false b t = absurd t
 
 is-same : (xs ys : List ℕ) → T (same xs ys) → xs ≡ ys
 is-same [] [] t = refl

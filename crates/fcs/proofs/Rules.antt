@@ -8,6 +8,7 @@ use native.Mathlib.Omega.{arith}
 use lib.Dec.{T, eqb, eqb→eq}
 use lib.ListN.{length, getD}
 use Rattle.bits.specs.Bits.{bit, num, bitsN, testBit}
+use Rattle.bits.proofs.Tests.{both}
 use Rattle.fcs.specs.Polynomials.{mixed, times, lead, step, remainder}
 use Rattle.fcs.specs.Annex.{generator, remainderOf}
 
@@ -15,10 +16,6 @@ use Rattle.fcs.specs.Annex.{generator, remainderOf}
 abbrev right : ℕ → List ℕ → Bool
 right i [] = true
 right i (x ∷ xs) = eqb x (num (remainderOf (bitsN 4 i))) && right (suc i) xs
-
-both : (a b : Bool) → T (a && b) → T a × T b
-both true b t = (tt, t)
-both false b t = absurd t
 
 entry : (i : ℕ) (xs : List ℕ) → T (right i xs) → (j : ℕ) → j < length xs
     → getD xs j 0 ≡ num (remainderOf (bitsN 4 (i + j)))

@@ -11,6 +11,7 @@ use borrow.Author.Tests.{eq-eqb, eqb-true, leb-true}
 use Rattle.blocks.specs.Faults.{unless, firstOf}
 use Rattle.bits.specs.Bits.{bitsOf, field}
 use Rattle.bits.specs.Layout.{element}
+use Rattle.bits.proofs.Tests.{both}
 use Rattle.blocks.specs.Sdu.{isThere}
 use Rattle.blocks.specs.Sync.{syncLayout, syncRules, syncOf, syncChecks}
 use Rattle.blocks.specs.declared.sync.Sync.{Sync}
@@ -37,10 +38,6 @@ chain (p ∷ ps) = unless (p .0) (p .1) ∷ chain ps
 abbrev all-such : List (Bool × ℕ) → Bool
 all-such [] = true
 all-such (p ∷ ps) = (leb 2 (p .1) && (leb (p .1) 12 || eqb (p .1) 18)) && all-such ps
-
-both : (a b : Bool) → T (a && b) → T a × T b
-both true b t = (tt, t)
-both false b t = absurd t
 
 such : (n : ℕ) (a b c : Bool) → leb 2 n ≡ a → leb n 12 ≡ b → eqb n 18 ≡ c → T (a && (b || c)) → OfReading n
 such n true true c x y z t =
