@@ -4,8 +4,8 @@ use mathlib.Core.Bool.{Bool, true, false, cond}
 use mathlib.Core.Logic.{_⊎_, inl, inr}
 use Prim.Native.Nat.{ℕ, zero, suc, _+_, _-_, _%_, _≤_, _<_}
 use native.Mathlib.Omega.{arith}
-use lib.Dec.{eqb}
-use borrow.Author.Tests.{eqb-true, eqb-false, eq-eqb, ne-eqb}
+use lib.Dec.{eqb, leb}
+use borrow.Author.Tests.{eqb-true, eqb-false, eq-eqb, ne-eqb, le-leb, lt-leb}
 use Rattle.blocks.specs.Slots.{nextFrame, frameNumber, passing, framesTo, dueFrame}
 
 -- ---- frames from X
@@ -54,6 +54,61 @@ in-order x f i (suc j) h = last-when (eqb i j) refl (in-order x f i j)
         → framesTo x f i < framesTo x f (suc j)
     last-when true e l = rw (eqb-true i j e) (later x f j)
     last-when false e l = let n = eqb-false i j e in let k = l (omega arith) in let m = later x f j in omega arith
+
+-- ---- how many they are
+
+-- a frame for each repeat and for each block up to this one, and one more where 18 lies among those of the blocks
+abbrev Counted : ℕ → ℕ → ℕ → ℕ → Type 0
+Counted x f i p = let y = nextFrame (x + f) + i in ((p ≡ f + suc i) × (y ≤ 17)) ⊎ ((p ≡ suc (f + suc i)) × (18 ≤ y))
+
+counted-first : (x f p : ℕ) → Passes x (suc f) p → Counted x f 0 p
+counted-first x f p (inl (e, h)) = inl (omega arith, omega arith)
+counted-first x f p (inr (e, h)) = inr (omega arith, omega arith)
+
+counted-next : (x f i p q : ℕ) → i ≤ 15 → Counted x f i p → Passes x (suc p) q → Counted x f (suc i) q
+counted-next x f i p q l (inl (e, h)) (inl (d, g)) = inl (omega arith, omega arith)
+counted-next x f i p q l (inl (e, h)) (inr (d, g)) = inr (omega arith, omega arith)
+counted-next x f i p q l (inr (e, h)) (inl (d, g)) = inr (omega arith, omega arith)
+counted-next x f i p q l (inr (e, h)) (inr (d, g)) = absurd (omega arith)
+
+counted : (x f i : ℕ) → i ≤ 16 → Counted x f i (framesTo x f i)
+counted x f zero l = counted-first x f (framesTo x f 0) (first-soon x f)
+counted x f (suc i) l =
+    counted-next x f i (framesTo x f i) (framesTo x f (suc i)) (omega arith) (counted x f i (omega arith))
+    (passes x (suc (framesTo x f i)))
+
+pub frames-closed : (x f i : ℕ) → i ≤ 16
+    → framesTo x f i ≡ f + suc i + cond (leb 18 (nextFrame (x + f) + i)) 1 0
+frames-closed x f i l = go (counted x f i l)
+  where
+    go : Counted x f i (framesTo x f i) → framesTo x f i ≡ f + suc i + cond (leb 18 (nextFrame (x + f) + i)) 1 0
+    go (inl (e, h)) = rw (lt-leb 18 (nextFrame (x + f) + i) (omega arith)) (omega arith)
+    go (inr (e, h)) = rw (le-leb 18 (nextFrame (x + f) + i) h) (omega arith)
+
+-- each at most two frames after the one before
+soon-by : (x k p : ℕ) → Passes x k p → p ≤ suc k
+soon-by x k p (inl (e, h)) = omega arith
+soon-by x k p (inr (e, h)) = omega arith
+
+pub next-soon : (x f i : ℕ) → framesTo x f (suc i) ≤ suc (suc (framesTo x f i))
+next-soon x f i = soon-by x (suc (framesTo x f i)) (framesTo x f (suc i)) (passes x (suc (framesTo x f i)))
+
+-- from a repeat of the header, g frames on, they are those of the header but for these
+passing-from : (x y g k : ℕ) → frameNumber x (g + k) ≡ frameNumber y k → passing x (g + k) ≡ g + passing y k
+passing-from x y g k e = ap (λ (n : ℕ). cond (eqb n 18) (suc (g + k)) (g + k)) e ∙ go (eqb (frameNumber y k) 18)
+  where
+    go : (t : Bool) → cond t (suc (g + k)) (g + k) ≡ g + cond t (suc k) k
+    go true = omega arith
+    go false = refl
+
+pub frames-from : (x y g c i : ℕ) → 1 ≤ x → y ≡ frameNumber x g → framesTo x (c + g) i ≡ g + framesTo y c i
+frames-from x y g c zero l e =
+    let n : suc (c + g) ≡ g + suc c = omega arith in
+    ap (passing x) n ∙ passing-from x y g (suc c) (omega arith)
+frames-from x y g c (suc i) l e =
+    let h = frames-from x y g c i l e in
+    let n : suc (framesTo x (c + g) i) ≡ g + suc (framesTo y c i) = omega arith in
+    ap (passing x) n ∙ passing-from x y g (suc (framesTo y c i)) (omega arith)
 
 -- ---- their numbers
 

@@ -7,5 +7,9 @@ pub mod ReportedLaws
 pub mod CallLaws
 pub mod Req03Holds
 pub mod Req02Holds
+pub mod SeriesLaws
+pub mod CutLaws
+pub mod BroughtLaws
+pub mod Req12Holds
 pub mod ExamplesHold
 pub mod RunHolds

@@ -1,25 +1,32 @@
 -- Request 02 holds. Assumes nothing.
-use mathlib.Core.Path.{_≡_, refl, sym, subst, subst⁻¹, _∙_}
+use mathlib.Core.Path.{_≡_, refl, sym, ap, subst, subst⁻¹, _∙_}
 use mathlib.Core.Logic.{_⊎_, inl, inr}
 use mathlib.Core.Bool.{false}
 use Prim.Native.Nat.{ℕ, zero, suc}
 use native.Mathlib.Omega.{arith}
 use Rattle.history.specs.Line.{_▸_, _⧺_}
 use Rattle.history.specs.Slots.{no-loss, Report}
-use Rattle.history.specs.Step.{dropped-at}
-use Rattle.history.specs.History.{History, Run, Drops, IsAcknowledged, LostTold, none-lost, one-lost}
+use Rattle.history.specs.Step.{Assembly, dropped-at}
+use Rattle.history.specs.History.{History, Run, IsOpen, Drops, IsAcknowledged, loss, LostTold, none-lost, one-lost}
 use Rattle.history.specs.Fate.{Way, still-open, EndsBy, by-end, by-loss, by-repeat, Still}
 use Rattle.history.specs.declared.Lost.{Lost}
+use Rattle.history.proofs.OpenRun.{found}
 use Rattle.history.proofs.Theorems.{theorem-dropped}
 use Rattle.history.proofs.FateHolds.{over-mark, anew-mark, not-yet, lost-or-handed-over}
 use Rattle.history.proofs.Verdicts.{absurd-bool}
 use Rattle.demands.specs.Calls.{HearCall, Made, history, current, answer, refusal, Taken}
-use Rattle.demands.specs.Req02.{Says, Req02}
+use Rattle.demands.specs.Req02.{TellsLoss, Says, Req02}
 use Rattle.demands.proofs.Demand3Holds.{given, answers, demand3}
 
 told-types : {hs : History} {r : Report} {x : Lost} → LostTold hs r x → (x ≡ no-loss) ⊎ IsAcknowledged (x .message)
 told-types (none-lost n) = inl refl
 told-types (one-lost x l) = inr (subst⁻¹ (λ (y : Lost). IsAcknowledged (y .message)) (l .its-numbers) (l .acknowledged))
+
+-- Two open runs have the same header's fields.
+one-run : {hs : History} {u v : Run} → IsOpen hs u → IsOpen hs v
+    → u .header .fields .message ≡ v .header .fields .message
+one-run {hs} {u} {v} o p =
+    ap (λ (a : Assembly). a .run .fields .message) (sym (found hs u o) ∙ found hs v p)
 
 module _ (c : HearCall) (t : Taken c) where
   -- Where nothing is dropped nothing is told of a loss.
@@ -39,13 +46,19 @@ module _ (c : HearCall) (t : Taken c) where
         l,
         (last, answers c t .joined-what _ _ x),
       )
-  ended (by-loss x) = (
-    answers c t .dropped .1 (x .drops),
-    answers c t .lost _ .0 x .0,
-    λ e.
-        let s = answers c t .joined .0 e in
-        unmarked (over-mark (s .holds)) (x .drops),
-  )
+  ended {u} (by-loss o x) =
+      let d : Drops (history c) (current c) = record { run = u; is-open = o; ends = x } in (
+        answers c t .dropped .1 d,
+        record {
+          of-these = λ k.
+              answers c t .lost (loss u) .0 (record { drops = d; acknowledged = k; its-numbers = refl }) .0;
+          of-others = λ n.
+              answers c t .none-lost .1 (λ y l. n (subst IsAcknowledged (one-run (l .drops .is-open) o) (l .acknowledged)));
+        },
+        λ e.
+            let s = answers c t .joined .0 e in
+            unmarked (over-mark (s .holds)) d,
+      )
   ended (by-repeat z) =
       let (d, l) = not-dropped (unmarked (anew-mark z)) in (
         answers c t .opened .1

@@ -13,7 +13,7 @@ use Rattle.history.proofs.Theorems.{theorem-copy}
 use Rattle.history.proofs.OnceHolds.{theorem-again, theorem-original}
 use Rattle.history.proofs.SevenHolds.{seven-are-needed}
 use Rattle.reports.specs.Lent.{heard}
-use Rattle.reports.proofs.FlagLaws.{same-alike}
+use Rattle.reports.proofs.FlagLaws.{same-read}
 use Rattle.receiver.specs.Reached.{reportOf}
 use Rattle.receiver.proofs.AcceptedLaws.{listed}
 use Rattle.demands.specs.Calls.{HearCall, history, current, answer, Taken}
@@ -33,9 +33,9 @@ module _ (c : HearCall) {h : Header} {f : ℕ} (b : HeaderHere c h f) where
       let g : header-in (heard s l) ≡ e .header = ap header-in (sym z) ∙ i .brings .0 in
       let k : header-in (current c .heard) ≡ h = ap header-in (b .holds) in
       ap is-fragmented z
-      ∙ same-alike s l (c .report) (ap (λ (h : Header). h .for-us) g ∙ i .brings .2)
+      ∙ same-read s l (c .report) (ap (λ (h : Header). h .for-us) g ∙ i .brings .2)
       (ap (λ (h : Header). h .for-us) k ∙ b .for-us)
-      (ap (λ (h : Header). h .raw) g ∙ x .same ∙ ap (λ (h : Header). h .raw) (sym k))
+      (ap (λ (h : Header). h .raw) g ∙ x .same ∙ ap (λ (h : Header). h .raw) (sym k)) .0
       ∙ ap is-fragmented (b .holds)
 
   copies : (e : Earlier) × Fits c h f e → Copies (history c) (current c)

@@ -3,7 +3,7 @@
 use mathlib.Core.Path.{_≡_}
 use mathlib.Core.List.{List}
 use Prim.Native.Nat.{ℕ, zero, suc}
-use Rattle.history.specs.Line.{Line, start, _▸_}
+use Rattle.history.specs.Line.{Line, start, _▸_, _⧺_}
 use Rattle.history.specs.Slots.{Report}
 use Rattle.history.specs.History.{History}
 use Rattle.reports.specs.Lent.{Lent, Event}
@@ -66,3 +66,10 @@ heard-after (suc n) c = c .earlier
 pub record Taken (c : HearCall) : Type 0 where
   pub made : Made c
   pub accepted : refusal c ≡ 0
+
+-- Calls for one receiver, one after another, each with an accepted report: the reports before them, theirs, and the
+-- calls.
+pub data Series (s : Settings) (before : Line Event) : Line Event → Line HearCall → Type 0 where
+  none : Series s before start start
+  one-more : {ls : Line Event} {cs : Line HearCall} → Series s before ls cs → (c : HearCall) → Taken c
+      → c .settings ≡ s → c .earlier ≡ before ⧺ ls → Series s before (ls ▸ c .report) (cs ▸ c)

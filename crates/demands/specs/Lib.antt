@@ -7,6 +7,7 @@ pub mod Demand1
 pub mod OfCalls
 pub mod Req03
 pub mod Req02
+pub mod Req12
 pub mod RunRows
 pub mod RunTable
 pub mod Run

@@ -1,5 +1,5 @@
 -- Request 02: a hire lost on the way is heard of. Demand 3 says exactly where a loss is told, and which three numbers;
--- here is what becomes of an assembly of a DM-SDS DATA or a DM-SDS ACK over all reports, and what the calls say of it.
+-- here is what becomes of an assembly over all reports, and what the calls say of it.
 -- `Fate`, `Still` and `EndsBy` are in crates/history/specs/Fate.antt.
 use mathlib.Core.Path.{_≡_}
 use mathlib.Core.Logic.{_⊎_}
@@ -12,6 +12,11 @@ use Rattle.history.specs.Fate.{Way, still-open, handed-over, lost, opened-anew,
 use Rattle.demands.specs.Calls.{HearCall, Made, history, current, answer, Taken}
 use Rattle.demands.specs.Demand3.{HandsOver}
 
+-- Of a run that is dropped its three numbers are told where it is of a DM-SDS DATA or a DM-SDS ACK, and else zeros.
+pub record TellsLoss (c : HearCall) (u : Run) : Type 0 where
+  pub of-these : IsAcknowledged (u .header .fields .message) → answer c .lost ≡ loss u
+  pub of-others : (IsAcknowledged (u .header .fields .message) → ⊥) → answer c .lost ≡ no-loss
+
 -- What the answer says of an assembly that ends here, as the run u, in one of the ways; while it is still open, and
 -- where it is not lost, nothing of a loss.
 abbrev pub Says : HearCall → Run → Way → Type 0
@@ -19,11 +24,11 @@ Says c u still-open = (answer c .dropped ≡ 0) × (answer c .lost ≡ no-loss)
 Says c u handed-over =
     (answer c .outcome ≡ 2) × (answer c .dropped ≡ 0) × (answer c .lost ≡ no-loss)
     × ((last : List Bool) × HandsOver c (u .header .fields) (join (u .header .bits) (u .blocks) ++ last))
-Says c u lost = (answer c .dropped ≡ 1) × (answer c .lost ≡ loss u) × (answer c .outcome ≡ 2 → ⊥)
+Says c u lost = (answer c .dropped ≡ 1) × TellsLoss c u × (answer c .outcome ≡ 2 → ⊥)
 Says c u opened-anew = (answer c .outcome ≡ 3) × (answer c .dropped ≡ 0) × (answer c .lost ≡ no-loss)
 
 pub record Req02 : Type 0 where
-  -- Over any reports an assembly of these two types that was opened comes to one of the four, never to two, once.
+  -- Over any reports an assembly that was opened comes to one of the four, never to two, once.
   pub fates : LostOrHandedOver
   -- The answer at the report where it ends says how it ended.
   pub ended : (c : HearCall) → Taken c → {u : Run} {w : Way} → EndsBy (history c) u (current c) w → Says c u w

@@ -5,11 +5,11 @@ use mathlib.Core.List.{List}
 use Prim.Native.Nat.{ℕ, suc, _≤_, _<_}
 use native.Mathlib.Omega.{arith}
 use lib.Dec.{eqb}
-use lib.ListN.{take, replicate}
+use lib.ListN.{take}
 use Rattle.bits.specs.Bits.{bitsOf}
 use Rattle.blocks.specs.declared.header.Fields.{Fields}
 use Rattle.store.proofs.Messages.{handed-bits}
-use Rattle.history.specs.Line.{Line, start, _▸_, _⧺_, Every}
+use Rattle.history.specs.Line.{Line, start, _▸_, _⧺_}
 use Rattle.history.specs.Slots.{next, Report}
 use Rattle.history.specs.History.{History, final, Copies}
 use Rattle.history.specs.Step.{Outcome, quiet, single, joined, opened, kept, copy, Answer, answer, number, message-of}
@@ -18,16 +18,16 @@ use Rattle.history.proofs.Lines.{never, both, ⧺-assoc, each-⧺}
 use Rattle.history.proofs.Theorems.{theorem-joined, theorem-single, theorem-dropped, theorem-told-only}
 use Rattle.reports.specs.Lent.{Lent, Event, for-unit}
 use Rattle.reports.specs.declared.unit.Settings.{Settings}
-use Rattle.receiver.specs.Reached.{reportOf, reports, refusedWith, Accepted}
-use Rattle.receiver.specs.declared.Receiver.{Receiver}
+use Rattle.receiver.specs.Reached.{reportOf, reports}
 use Rattle.demands.specs.Calls as call
-use Rattle.demands.specs.Calls.{Calls, accepted, HearCall, history, current, Taken}
+use Rattle.demands.specs.Calls.{HearCall, history, current, Taken, Series, none, one-more}
 use Rattle.demands.specs.Demand3.{HandsOver, HandsNothing}
-use Rattle.demands.proofs.Demand3Holds.{given, answers, unmarked, demand3}
+use Rattle.demands.proofs.Demand3Holds.{given, answers, unmarked}
+use Rattle.demands.proofs.SeriesLaws.{series}
 use Rattle.ends.specs.EndToEnd.{Message, Build, bits, k, header-slot, header-lent, block-lent, due-slot, Sent}
 use Rattle.ends.specs.EndToEnd as ends
 use Rattle.ends.specs.EndToEnd.{Handed, with-outcome, handed, header-report, all-reports, so-far, on-its-way}
-use Rattle.ends.specs.Delivered.{Hearing, none, one-more, hands, handed-by, sent-lent, Arrives, Delivered}
+use Rattle.ends.specs.Delivered.{hands, handed-by, sent-lent, Arrives, Delivered}
 use Rattle.ends.proofs.EndToEndHolds.{end-to-end}
 
 not-true : (b : Bool) → b ≡ false → b ≡ true → ⊥
@@ -104,7 +104,7 @@ module _ (s : Settings) (before : Line Event) where
   current-is : (c : HearCall) → c .settings ≡ s → current c ≡ reportOf s (c .report)
   current-is c e = ap (λ (x : Settings). reportOf x (c .report)) e
 
-  handed-is : {ls : Line Event} {cs : Line HearCall} → Hearing s before ls cs
+  handed-is : {ls : Line Event} {cs : Line HearCall} → Series s before ls cs
       → handed-by cs ≡ handed (reports s before) (reports s ls)
   handed-is none = refl
   handed-is (one-more {ls} {cs} h c t e f) =
@@ -121,7 +121,7 @@ record Last (s : Settings) (before ls : Line Event) (l : Lent) (c : HearCall) : 
   report : c .report ≡ l
 
 last-of : {s : Settings} {before xs ls : Line Event} {ys cs : Line HearCall} {l : Lent} {c : HearCall}
-    → Hearing s before xs ys → xs ≡ ls ▸ l → ys ≡ cs ▸ c → Last s before ls l c
+    → Series s before xs ys → xs ≡ ls ▸ l → ys ≡ cs ▸ c → Last s before ls l c
 last-of none e f = absurd (never _ _ (sym e))
 last-of {s} {before} {ls = ls} {l = l} (one-more h d t i j) e f =
     let (x, y) = both e in
@@ -165,7 +165,7 @@ module _ (s : Settings) (m : Message) (b : Build m) (before : Line Event) (w : f
   law : ends.HandsOver s m b hs
   law = end-to-end .hands-over s m b hs w
 
-  handed-all : (ls : Line Lent) {cs : Line HearCall} → Hearing s before (sent-lent m b ls) cs
+  handed-all : (ls : Line Lent) {cs : Line HearCall} → Series s before (sent-lent m b ls) cs
       → handed-by cs ≡ handed hs (all-reports s m b ls)
   handed-all ls h = handed-is s before h ∙ ap (handed hs) (each-⧺ (reportOf s) (start ▸ header-lent m b) ls)
 
@@ -175,7 +175,7 @@ module _ (s : Settings) (m : Message) (b : Build m) (before : Line Event) (w : f
       ∙ ⧺-assoc hs (start ▸ header-report s m b) (reports s ls)
 
   on-the-way : {ls : Line Lent} {l : Lent} {cs : Line HearCall} {c : HearCall} {i : ℕ} → Sent s m b (ls ▸ l) i
-      → i < k m → Hearing s before (sent-lent m b (ls ▸ l)) (cs ▸ c)
+      → i < k m → Series s before (sent-lent m b (ls ▸ l)) (cs ▸ c)
       → (call.answer c .outcome ≡ number (on-its-way opened (l .kind))) × (call.answer c .dropped ≡ 0) × HandsNothing c
   on-the-way {ls} {l} x few h =
       let z = last-of h refl refl in
@@ -208,36 +208,11 @@ module _ (s : Settings) (m : Message) (b : Build m) (before : Line Event) (w : f
             );
       }
 
--- ---- there are such calls
-
-possible : {s : Settings} {before : Line Event} {r : Receiver} → Calls s before r → (ls : Line Event)
-    → Every Accepted ls → (cs : Line HearCall) × (x : Receiver) × Hearing s before ls cs × Calls s (before ⧺ ls) x
-possible {r = r} y start a = (start, r, none, y)
-possible {s} {before} c (ls ▸ l) a =
-    let (cs, x, h, y) = possible c ls (a .0) in
-    let (reply, new, m) = demand3 .possible y l (replicate 512 0) in
-    let e : refusedWith l (replicate 512 0) ≡ 0 = a .1 in
-    let c : HearCall =
-    record {
-      settings = s;
-      earlier = before ⧺ ls;
-      before = x;
-      report = l;
-      reply = reply;
-      old = replicate 512 0;
-      new = new;
-    } in (
-      cs ▸ c,
-      reply .receiver,
-      one-more h c (record { made = m; accepted = e }) refl refl,
-      accepted y l reply (replicate 512 0) new (m .hears) e,
-    )
-
 pub delivered : Delivered
 delivered =
     record {
       arrives = arrives;
       joined = λ c t m b w before ls i e s u g r. joined-by c t m b w before ls i e s u g r;
       single = λ c t m b w z r n. single-by c t m b w z r n;
-      possible = λ c ls a. let (cs, x, h, y) = possible c ls a in (cs, h);
+      possible = λ c ls a. series c ls a;
     }

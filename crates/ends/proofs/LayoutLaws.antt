@@ -3,11 +3,10 @@ use Prim.Native.Nat.{ℕ, zero, suc, _+_, _-_, _*_, _%_, _≤_, _<_}
 use native.Mathlib.Omega.{arith}
 use mathlib.Core.Path.{_≡_, refl, sym, _∙_, ap, ap₂, subst, subst⁻¹}
 use mathlib.Core.Bool.{Bool, true, false, cond}
-use mathlib.Core.Logic.{_⊎_, ⊎-elim}
+use mathlib.Core.Logic.{_⊎_}
 use mathlib.Core.List.{List}
 use lib.Dec.{eqb}
 use lib.ListN.{length}
-use borrow.Author.Tests.{le-leb}
 use Rattle.build.specs.Build.{builtAs, buildOf}
 use Rattle.blocks.specs.declared.sync.Sync.{Sync}
 use Rattle.blocks.specs.declared.header.Fields.{Fields}
@@ -21,6 +20,7 @@ use Rattle.reports.specs.Lent.{Lent, brought, heardSlot}
 use Rattle.reports.specs.declared.unit.Settings.{Settings}
 use Rattle.history.specs.declared.Place.{Place}
 use Rattle.receiver.specs.Reached.{reportOf, reports, Accepted}
+use Rattle.demands.proofs.BroughtLaws.{accept, next-heard, named-heard}
 use Rattle.ends.specs.EndToEnd.{Message, k, Build, header-slot, header-lent, nothing-lent, due-slot, Sent, first}
 use Rattle.ends.specs.EndToEnd.{silence, repeat, block, headers}
 use Rattle.ends.proofs.HeardLaws.{range, length-header, length-block}
@@ -182,17 +182,6 @@ module _ (s : Settings) (m : Message) (b : Build m) where
 
 -- ---- Reports that are not refused.
 
-accept : (l : Lent) → 1 ≤ l .frame → l .frame ≤ 18 → heardSlot (l .slot) ≡ true
-    → brought (l .kind) (length (l .blocks)) ≡ true → Accepted l
-accept l a b c d = rw (le-leb 1 (l .frame) a, le-leb (l .frame) 18 b, c, d) refl
-
-slot-heard : (y : ℕ) (b : Bool) → heardSlot (slot-after b y .slot) ≡ true
-slot-heard y true = refl
-slot-heard y false = refl
-
-next-heard : (p q : Place) → q ≡ next p → heardSlot (q .slot) ≡ true
-next-heard p q e = ap (λ (z : Place). heardSlot (z .slot)) e ∙ slot-heard (p .frame) (eqb (p .slot) 1)
-
 header-brought : (m : Message) (b : Build m) → brought 2 (length (header-lent m b .blocks)) ≡ true
 header-brought m b = ap (brought 2) (length-header m b)
 
@@ -214,5 +203,5 @@ pub header-accepted : (m : Message) (b : Build m) → (b .sync .slot ≡ 0) ⊎ 
     → Accepted (header-lent m b)
 header-accepted m b h =
     accept (header-lent m b) (range m b .numbers .first-frame) (range m b .numbers .last-frame)
-    (⊎-elim (λ (e : b .sync .slot ≡ 0). rw e refl) (λ (e : b .sync .slot ≡ 2). rw e refl) h)
+    (named-heard (b .sync .slot) h)
     (header-brought m b)

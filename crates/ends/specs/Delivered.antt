@@ -13,19 +13,12 @@ use Rattle.reports.specs.Lent.{Lent, Event, for-unit}
 use Rattle.reports.specs.declared.unit.Settings.{Settings}
 use Rattle.receiver.specs.Reached.{reports, Accepted}
 use Rattle.receiver.specs.declared.Receiver.{Receiver}
-use Rattle.demands.specs.Calls.{Calls, HearCall, history, current, answer, Taken}
+use Rattle.demands.specs.Calls.{Calls, HearCall, history, current, answer, Taken, Series}
 use Rattle.demands.specs.Demand3.{HandsOver, HandsNothing}
 use Rattle.ends.specs.EndToEnd.{Message, Build, bits, k, header-slot, header-lent, block-lent, due-slot, Sent}
 use Rattle.ends.specs.EndToEnd.{Handed, header-report, on-its-way}
 
--- Calls of `hear` for one receiver, one after another, each with an accepted report: the reports before them, theirs,
--- and the calls.
-pub data Hearing (s : Settings) (before : Line Event) : Line Event → Line HearCall → Type 0 where
-  none : Hearing s before start start
-  one-more : {ls : Line Event} {cs : Line HearCall} → Hearing s before ls cs → (c : HearCall) → Taken c
-      → c .settings ≡ s → c .earlier ≡ before ⧺ ls → Hearing s before (ls ▸ c .report) (cs ▸ c)
-
--- What they handed over, in order: with outcomes 1 and 2 the fields of the answer, and so many bits of the buffer.
+-- What calls handed over, in order: with outcomes 1 and 2 the fields of the answer, and so many bits of the buffer.
 abbrev pub hands : ℕ → Bool
 hands outcome = eqb outcome 1 || eqb outcome 2
 
@@ -44,23 +37,23 @@ pub record Arrives (s : Settings) (m : Message) (b : Build m) (before : Line Eve
   -- All of it heard: exactly that message is handed over, exactly once. One that goes into the header is not where it
   -- is a copy of what was heard before.
   pub once : (k m ≡ 0 → Copies (reports s before) (header-report s m b) → ⊥) → {ls : Line Lent} {cs : Line HearCall}
-      → Sent s m b ls (k m) → Hearing s before (sent-lent m b ls) cs
+      → Sent s m b ls (k m) → Series s before (sent-lent m b ls) cs
       → handed-by cs ≡ start ▸ record { fields = m .fields; bits = bits m }
   pub copied : k m ≡ 0 → Copies (reports s before) (header-report s m b) → {ls : Line Lent} {cs : Line HearCall}
-      → Sent s m b ls (k m) → Hearing s before (sent-lent m b ls) cs → handed-by cs ≡ start
+      → Sent s m b ls (k m) → Series s before (sent-lent m b ls) cs → handed-by cs ≡ start
   -- Nothing is handed over before the last block.
   pub not-before : {ls : Line Lent} {cs : Line HearCall} {i : ℕ} → Sent s m b ls i → i < k m
-      → Hearing s before (sent-lent m b ls) cs → handed-by cs ≡ start
+      → Series s before (sent-lent m b ls) cs → handed-by cs ≡ start
   -- The header of a message with blocks opens an assembly.
-  pub opens : 0 < k m → {cs : Line HearCall} {c : HearCall} → Hearing s before (sent-lent m b start) (cs ▸ c)
+  pub opens : 0 < k m → {cs : Line HearCall} {c : HearCall} → Series s before (sent-lent m b start) (cs ▸ c)
       → (answer c .outcome ≡ 3) × HandsNothing c
   -- Each report on the way opens, for a repeat, or keeps its block, or is quiet; and drops nothing.
   pub on-the-way : {ls : Line Lent} {l : Lent} {cs : Line HearCall} {c : HearCall} {i : ℕ} → Sent s m b (ls ▸ l) i
-      → i < k m → Hearing s before (sent-lent m b (ls ▸ l)) (cs ▸ c)
+      → i < k m → Series s before (sent-lent m b (ls ▸ l)) (cs ▸ c)
       → (answer c .outcome ≡ number (on-its-way opened (l .kind))) × (answer c .dropped ≡ 0) × HandsNothing c
   -- Each repeat of one that goes into the header is a copy.
   pub repeated : k m ≡ 0 → {ls : Line Lent} {l : Lent} {cs : Line HearCall} {c : HearCall} {i : ℕ}
-      → Sent s m b (ls ▸ l) i → Hearing s before (sent-lent m b (ls ▸ l)) (cs ▸ c)
+      → Sent s m b (ls ▸ l) i → Series s before (sent-lent m b (ls ▸ l)) (cs ▸ c)
       → (answer c .outcome ≡ number (on-its-way copy (l .kind))) × HandsNothing c
 
 pub record Delivered : Type 0 where
@@ -81,4 +74,4 @@ pub record Delivered : Type 0 where
       → (Copies (history c) (current c) → ⊥) → (answer c .outcome ≡ 1) × HandsOver c (m .fields) (bits m)
   -- There are such calls, for any reports that can be accepted, from any receiver that calls gave.
   pub possible : {s : Settings} {before : Line Event} {r : Receiver} → Calls s before r → (ls : Line Event)
-      → Every Accepted ls → (cs : Line HearCall) × Hearing s before ls cs
+      → Every Accepted ls → (cs : Line HearCall) × Series s before ls cs

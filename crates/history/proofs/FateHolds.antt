@@ -1,5 +1,4 @@
--- An assembly of a DM-SDS DATA or a DM-SDS ACK is handed over, lost, opened anew or still open, and only one of these,
--- once. Assumes nothing.
+-- An assembly is handed over, lost, opened anew or still open, and only one of these, once. Assumes nothing.
 use Prim.Native.Nat.{ℕ, suc}
 use native.Mathlib.Omega.{arith}
 use mathlib.Core.Path.{_≡_, refl, sym, _∙_, ap, subst, subst⁻¹}
@@ -18,7 +17,6 @@ use Rattle.history.specs.Step.{Assembly, Answer, no-assembly, in-turn, r
 use Rattle.history.specs.Step.{after, step, answer, dropped-at}
 use Rattle.history.specs.History.{History, final, InTurn, Unbroken, NotFragmented, Run, IsOpen, next-due, join}
 use Rattle.history.specs.History.{Closes, Keeps, Opens, DueKind, Ends, broken, other-header, missed, Drops}
-use Rattle.history.specs.History.{IsAcknowledged}
 use Rattle.history.specs.Fate.{Way, still-open, handed-over, lost, opened-anew, Renews, EndsBy, by-end, by-loss}
 use Rattle.history.specs.Fate.{by-repeat, Still, Fate, not-ended, ended, HasFate, LostOrHandedOver}
 use Rattle.history.proofs.Lines.{both, ⧺-assoc, ⧺-cancel, every-parts}
@@ -31,21 +29,22 @@ use Rattle.history.proofs.Theorems.{closed, stays-closed}
 
 -- ---- What an open run comes to at a report.
 
-data Next (hs : History) (u : Run) (r : Report) : Type 0 where
+pub data Next (hs : History) (u : Run) (r : Report) : Type 0 where
   goes-on : (bs : Line (List Bool)) → IsOpen (hs ▸ r) (grown u r bs) → Next hs u r
-  closes : (last : List Bool) → Closes hs r (u .header .fields) (join (u .header .bits) (u .blocks) ++ last)
-      → Next hs u r
-  drops : Ends hs u r → Next hs u r
-  anew : Renews hs u r → Next hs u r
+  ends : (w : Way) → EndsBy hs u r w → Next hs u r
 
 module _ {hs : History} (u : Run) (r : Report) (o : IsOpen hs u) where
+  dropped : Ends hs u r → Next hs u r
+  dropped e = ends lost (by-loss o e)
+
   -- A header, its own or not.
   headed : Unbroken hs (r .place) → (h : Header) (more f : ℕ) → r .heard ≡ fragmented h more f → Next hs u r
   headed k h more f e = go (renews (shape (on u r) .run) (h .for-us) (h .raw) f) refl
     where
       go : (b : Bool) → renews (shape (on u r) .run) (h .for-us) (h .raw) f ≡ b → Next hs u r
       go true z =
-          anew
+          ends opened-anew
+          (by-repeat
           (record {
             header = h;
             more = more;
@@ -54,8 +53,8 @@ module _ {hs : History} (u : Run) (r : Report) (o : IsOpen hs u) where
             unbroken = k;
             holds = e;
             repeats = repeat-true u r h f z;
-          })
-      go false z = drops (other-header h more f e (λ y. absurd-bool (sym z ∙ repeat-is u r h f y)))
+          }))
+      go false z = dropped (other-header h more f e (λ y. absurd-bool (sym z ∙ repeat-is u r h f y)))
 
   -- A slot that is not due, and one that is, by what it held.
   passed : Unbroken hs (r .place) → NotFragmented (r .heard) → same-place (r .place) (next-due u) ≡ false → Next hs u r
@@ -63,7 +62,7 @@ module _ {hs : History} (u : Run) (r : Report) (o : IsOpen hs u) where
 
   missed-at : same-place (r .place) (next-due u) ≡ true → NotFragmented (r .heard) → (DueKind u (r .heard) → ⊥)
       → Next hs u r
-  missed-at d n z = drops (missed (same-place-true (r .place) (next-due u) d) n z)
+  missed-at d n z = dropped (missed (same-place-true (r .place) (next-due u) d) n z)
 
   at-due : Unbroken hs (r .place) → same-place (r .place) (next-due u) ≡ true → NotFragmented (r .heard) → (x : Heard)
       → r .heard ≡ x → Next hs u r
@@ -85,7 +84,8 @@ module _ {hs : History} (u : Run) (r : Report) (o : IsOpen hs u) where
     where
       go : (l : Bool) → eqb (count (u .blocks)) (u .more) ≡ l → Next hs u r
       go true l =
-          closes b
+          ends handed-over
+          (by-end b
           (record {
             run = u;
             is-open = o;
@@ -96,10 +96,10 @@ module _ {hs : History} (u : Run) (r : Report) (o : IsOpen hs u) where
             holds = e;
             its-fields = refl;
             its-bits = refl;
-          })
+          }))
       go false l = missed-at d n (λ z. eqb-false (count (u .blocks)) (u .more) l (rw e at z))
 
-  next-is : Next hs u r
+  pub next-is : Next hs u r
   next-is = go (in-turn (after hs .last) (r .place)) refl
     where
       by-slot : Unbroken hs (r .place) → NotFragmented (r .heard) → (d : Bool)
@@ -115,7 +115,7 @@ module _ {hs : History} (u : Run) (r : Report) (o : IsOpen hs u) where
       by-kind k (end b) e = by-slot k (rw e refl) (same-place (r .place) (next-due u)) refl
 
       go : (t : Bool) → in-turn (after hs .last) (r .place) ≡ t → Next hs u r
-      go false t = drops (broken (λ k. absurd-bool (sym t ∙ turn-is hs (r .place) k)))
+      go false t = dropped (broken (λ k. absurd-bool (sym t ∙ turn-is hs (r .place) k)))
       go true t = by-kind (turn-true hs (r .place) t) (r .heard) refl
 
 -- ---- Never neither.
@@ -131,8 +131,8 @@ own {before} {o} {since} {u} s =
     ⧺-cancel (before ▸ o) (b ▸ header u) since
     (s .is-open .split ∙ ap (λ (l : History). (b ▸ header u) ⧺ l) (s .its-own))
 
-module _ (before : History) (o : Report) (y : Opens o) (k : IsAcknowledged (y .header .fields .message)) where
-  opened : Still before o start
+module _ (before : History) (o : Report) (y : Opens o) where
+  pub just-opened : Still before o start
       (record {
         header = y .header;
         more = y .more;
@@ -141,7 +141,7 @@ module _ (before : History) (o : Report) (y : Opens o) (k : IsAcknowledged (y .h
         since = start;
         blocks = start;
       })
-  opened =
+  just-opened =
       record {
         is-open =
             record {
@@ -156,11 +156,6 @@ module _ (before : History) (o : Report) (y : Opens o) (k : IsAcknowledged (y .h
         its-own = refl;
       }
 
-  one-of-two : {since : History} {u : Run} → Still before o since u → IsAcknowledged (u .header .fields .message)
-  one-of-two s =
-      subst (λ (x : Heard). IsAcknowledged (header-in x .fields .message))
-      (sym (y .holds) ∙ ap (λ (r : Report). r .heard) (both (own s) .1)) k
-
   grows-fate : {since : History} (r : Report) (u : Run) (s : Still before o since u)
       → Next ((before ▸ o) ⧺ since) u r → HasFate before o (since ▸ r)
   grows-fate {since} r u s (goes-on bs i) =
@@ -171,34 +166,11 @@ module _ (before : History) (o : Report) (y : Opens o) (k : IsAcknowledged (y .h
             not-ended (grown u r bs)
             (record { is-open = i; its-own = ap (λ (l : History). l ▸ r) (s .its-own) });
       }
-  grows-fate {since} r u s (closes last c) =
-      record {
-        way = handed-over;
-        at = suc (count since);
-        fate = ended since start r u handed-over refl s (by-end last c);
-      }
-  grows-fate {since} r u s (drops e) =
-      record {
-        way = lost;
-        at = suc (count since);
-        fate =
-            ended since start r u lost refl s
-            (by-loss
-            (record {
-              drops = record { run = u; is-open = s .is-open; ends = e };
-              acknowledged = one-of-two s;
-              its-numbers = refl;
-            }));
-      }
-  grows-fate {since} r u s (anew w) =
-      record {
-        way = opened-anew;
-        at = suc (count since);
-        fate = ended since start r u opened-anew refl s (by-repeat w);
-      }
+  grows-fate {since} r u s (ends w x) =
+      record { way = w; at = suc (count since); fate = ended since start r u w refl s x }
 
   some-fate : (since : History) → HasFate before o since
-  some-fate start = record { way = still-open; at = 0; fate = not-ended _ opened }
+  some-fate start = record { way = still-open; at = 0; fate = not-ended _ just-opened }
   some-fate (since ▸ r) = go (some-fate since .fate)
     where
       go : {w : Way} {n : ℕ} → Fate before o since w n → HasFate before o (since ▸ r)
@@ -228,21 +200,21 @@ anew-mark {hs} {u} {r} w =
     ∙ ap not (repeat-is u r (w .header) (w .countdown) (w .repeats))
 
 module _ {hs : History} {r : Report} where
-  not-dropped : dropped-at hs r ≡ false → Drops hs r → ⊥
-  not-dropped e d = absurd-bool (sym e ∙ drops-is hs r d)
+  not-dropped : {u : Run} → dropped-at hs r ≡ false → IsOpen hs u → Ends hs u r → ⊥
+  not-dropped {u} e o x = absurd-bool (sym e ∙ drops-is hs r (record { run = u; is-open = o; ends = x }))
 
   not-a-header : {g : Fields} {m : List Bool} {u : Run} → Closes hs r g m → Renews hs u r → ⊥
   not-a-header c w = absurd-bool (ap is-fragmented (sym (c .holds) ∙ w .holds))
 
   one-way : {u v : Run} {w w′ : Way} → EndsBy hs u r w → EndsBy hs v r w′ → w ≡ w′
   one-way (by-end l c) (by-end l′ c′) = refl
-  one-way (by-end l c) (by-loss x) = absurd (not-dropped (over-mark c) (x .drops))
+  one-way (by-end l c) (by-loss o x) = absurd (not-dropped (over-mark c) o x)
   one-way (by-end l c) (by-repeat z) = absurd (not-a-header c z)
-  one-way (by-loss x) (by-end l c) = absurd (not-dropped (over-mark c) (x .drops))
-  one-way (by-loss x) (by-loss x′) = refl
-  one-way (by-loss x) (by-repeat z) = absurd (not-dropped (anew-mark z) (x .drops))
+  one-way (by-loss o x) (by-end l c) = absurd (not-dropped (over-mark c) o x)
+  one-way (by-loss o x) (by-loss o′ x′) = refl
+  one-way (by-loss o x) (by-repeat z) = absurd (not-dropped (anew-mark z) o x)
   one-way (by-repeat z) (by-end l c) = absurd (not-a-header c z)
-  one-way (by-repeat z) (by-loss x) = absurd (not-dropped (anew-mark z) (x .drops))
+  one-way (by-repeat z) (by-loss o x) = absurd (not-dropped (anew-mark z) o x)
   one-way (by-repeat z) (by-repeat z′) = refl
 
 -- A report in turn that brings no fragmented header and drops an assembly leaves none.
@@ -265,7 +237,7 @@ dropped-none {hs} {r} d k n =
 none-after : {hs : History} {r : Report} {u : Run} {w : Way} → EndsBy hs u r w → Unbroken hs (r .place)
     → NotFragmented (r .heard) → At (hs ▸ r) no-assembly
 none-after {hs} {r} (by-end l c) k n = closed hs r _ _ c
-none-after (by-loss x) k n = dropped-none (x .drops) k n
+none-after {u = u} (by-loss o x) k n = dropped-none (record { run = u; is-open = o; ends = x }) k n
 none-after (by-repeat z) k n = absurd-bool (sym n ∙ ap is-fragmented (z .holds))
 
 -- What ended is never open again: after these reports, and any others.
@@ -336,4 +308,4 @@ one-fate {before} {o} (ended a l r u w e s x) (ended b m q v w′ e′ t y) = go
         absurd (never-again before o b q n (subst (λ (h : History). Still before o h u) i s) (none-after y))
 
 pub lost-or-handed-over : LostOrHandedOver
-lost-or-handed-over = record { some = λ before o since y k. some-fate before o y k since; only = one-fate }
+lost-or-handed-over = record { some = λ before o since y. some-fate before o y since; only = one-fate }

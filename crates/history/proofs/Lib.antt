@@ -10,3 +10,4 @@ pub mod FateHolds
 pub mod OnceHolds
 pub mod SevenHolds
 pub mod Bounds
+pub mod LastsHolds

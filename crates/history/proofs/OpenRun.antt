@@ -59,7 +59,7 @@ pub turns-on : {hs : History} (before since : History) (p : Report) (q : Place) 
 turns-on before start p q e k = subst (λ (l : History). Unbroken l q) e k
 turns-on before (since ▸ x) p q e k = subst (λ (l : History). Unbroken l q) e k
 
-count-each : {A B : Type 0} (f : A → B) (l : Line A) → count (each f l) ≡ count l
+pub count-each : {A B : Type 0} (f : A → B) (l : Line A) → count (each f l) ≡ count l
 count-each f start = refl
 count-each f (l ▸ x) = ap suc (count-each f l)
 

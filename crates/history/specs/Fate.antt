@@ -1,13 +1,12 @@
--- What becomes of an assembly of a DM-SDS DATA or a DM-SDS ACK: over any reports it is handed over, lost with its three
--- numbers, opened anew by its own repeat, or still open, and only one of these, once. Nothing here runs the step.
+-- What becomes of an assembly: over any reports it is handed over, lost, opened anew by its own repeat, or still open,
+-- and only one of these, once. Nothing here runs the step.
 use Prim.Native.Nat.{ℕ, suc}
 use mathlib.Core.Path.{_≡_}
 use mathlib.Core.Bool.{Bool}
 use mathlib.Core.List.{List, _++_}
 use Rattle.history.specs.Line.{_▸_, _⧺_, count}
 use Rattle.history.specs.Slots.{Header, fragmented, Report}
-use Rattle.history.specs.History.{History, Unbroken, join, Run, IsOpen, Closes, Opens, Repeats}
-use Rattle.history.specs.History.{IsAcknowledged, loss, Loses}
+use Rattle.history.specs.History.{History, Unbroken, join, Run, IsOpen, Closes, Opens, Repeats, Ends}
 
 -- What becomes of an opened assembly.
 pub data Way : Type 0 where
@@ -23,12 +22,11 @@ pub record Renews (hs : History) (u : Run) (r : Report) : Type 0 where
   pub holds : r .heard ≡ fragmented header more countdown
   pub repeats : Repeats u r header countdown
 
--- How the open run u ends at a report: its own message is handed over, its own three numbers are told, or its own
--- header opens it anew.
+-- How the open run u ends at a report: its own message is handed over, it is dropped, or its own header opens it anew.
 pub data EndsBy (hs : History) (u : Run) (r : Report) : Way → Type 0 where
   by-end : (last : List Bool) → Closes hs r (u .header .fields) (join (u .header .bits) (u .blocks) ++ last)
       → EndsBy hs u r handed-over
-  by-loss : Loses hs r (loss u) → EndsBy hs u r lost
+  by-loss : IsOpen hs u → Ends hs u r → EndsBy hs u r lost
   by-repeat : Renews hs u r → EndsBy hs u r opened-anew
 
 -- The assembly that report o opened, as the run u, is open after the reports since.
@@ -49,9 +47,8 @@ pub record HasFate (before : History) (o : Report) (since : History) : Type 0 wh
   pub fate : Fate before o since way at
 
 pub record LostOrHandedOver : Type 0 where
-  -- Never neither: every assembly of these two types that a report opens comes to one of the four.
-  pub some : (before : History) (o : Report) (since : History) (y : Opens o)
-      → IsAcknowledged (y .header .fields .message) → HasFate before o since
+  -- Never neither: every assembly that a report opens comes to one of the four.
+  pub some : (before : History) (o : Report) (since : History) → Opens o → HasFate before o since
   -- Never both, and once: to one of them only, at one report only.
   pub only : {before : History} {o : Report} {since : History} {w w′ : Way} {n n′ : ℕ} → Fate before o since w n
       → Fate before o since w′ n′ → (w ≡ w′) × (n ≡ n′)

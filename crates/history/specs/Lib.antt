@@ -5,4 +5,5 @@ pub mod History
 pub mod Step
 pub mod Once
 pub mod Fate
+pub mod Lasts
 pub mod Seven

@@ -70,7 +70,7 @@ follows-is none q n = refl
 follows-is (some p) q n = rw (ne-eqb (p .slot) 0 (omega arith)) refl
 
 -- the room that there is in an assembly
-all-sized : (s : Settings) (ls : Line Event) → Every Accepted ls
+pub all-sized : (s : Settings) (ls : Line Event) → Every Accepted ls
     → Every (λ r. Framed (r .place) × Sized (r .heard)) (reports s ls)
 all-sized s start a = tt
 all-sized s (ls ▸ l) a = (all-sized s ls (a .0), (framed l (a .1), sized s l))

@@ -1,5 +1,6 @@
--- Two headers with the same SCH/H but for the countdown are both fragmented, or neither is. Assumes nothing.
-use mathlib.Core.Path.{_≡_, refl, sym, _∙_, ap, subst}
+-- Two headers with the same SCH/H but for the countdown are both fragmented, or neither is, and tell the same number of
+-- blocks. Assumes nothing.
+use mathlib.Core.Path.{_≡_, refl, sym, _∙_, ap, ap₂, subst}
 use mathlib.Core.Bool.{Bool, true, false, cond}
 use mathlib.Core.List.{List, [], _∷_}
 use Prim.Native.Nat.{ℕ, zero, suc, _+_, _-_, _*_, _^_, _≤_, _<_}
@@ -8,20 +9,21 @@ use lib.Dec.{eqb}
 use lib.ListN.{length, take, drop, length-drop}
 use lib.Seq.{length-take-le}
 use borrow.Author.Tests.{eqb-true, eqb-false}
-use Rattle.bits.specs.Bits.{bitsOf, num}
+use Rattle.bits.specs.Bits.{bitsOf, num, field}
 use Rattle.bits.proofs.Numbers.{num-lt, take-of-drop}
 use Rattle.bits.proofs.Bytes.{length-bitsOf}
 use Rattle.bits.proofs.Over.{length-over, over-take}
 use Rattle.blocks.specs.Header.{fragmentedIn}
 use Rattle.blocks.specs.Continuation.{readContinuation}
+use Rattle.blocks.specs.declared.header.Header as read
 use Rattle.store.proofs.Blocks.{halves-same}
 use Rattle.history.specs.Slots.{Header, Heard, nothing, fragmented, unfragmented, frag, end}
-use Rattle.history.specs.Slots.{header-in, countdown-in, is-fragmented}
+use Rattle.history.specs.Slots.{header-in, more-in, countdown-in, is-fragmented}
 use Rattle.history.proofs.Verdicts.{absurd-bool}
 use Rattle.reports.specs.Lent.{Lent, uncounted, rawOf, unfaulted, headerFrom, headerIn, headerHeard}
 use Rattle.reports.specs.Lent.{schHIn, blockHeard, heard, BringsShort}
 use Rattle.reports.specs.declared.unit.Settings.{Settings}
-use Rattle.reports.proofs.Readings.{well-read}
+use Rattle.reports.proofs.Readings.{WellRead, well-read}
 
 -- The flag is bit 11.
 flag-first : (b : List Bool) → fragmentedIn (take 12 b) ≡ fragmentedIn b
@@ -36,7 +38,14 @@ flag-low b l =
     let h : num x < 2 ^ 1 = subst (λ (k : ℕ). num x < 2 ^ k) n (num-lt x) in
     omega arith
 
--- The countdown's two bits come after it, in either header: to leave them out leaves it as it is.
+-- The slot count, where there is one, comes after it.
+abbrev slots-in : ℕ → List Bool → ℕ
+slots-in f b = field 12 (4 * f) b
+
+slots-first : (f : ℕ) (b : List Bool) → slots-in f (take (12 + 4 * f) b) ≡ slots-in f b
+slots-first f b = ap num (take-of-drop (4 * f) 12 (12 + 4 * f) b (omega arith))
+
+-- The countdown's two bits come after both, in either header: to leave them out leaves these as they are.
 module _ (b : List Bool) (l : length b ≡ 128) where
   uncounted-length : length (uncounted b) ≡ 128
   uncounted-length =
@@ -48,6 +57,14 @@ module _ (b : List Bool) (l : length b ≡ 128) where
       ∙ ap fragmentedIn
       (over-take 12 (12 + 4 * fragmentedIn b) (false ∷ false ∷ []) b (omega arith) (omega (arith, flag-low b l)))
       ∙ flag-first b
+
+  uncounted-slots : slots-in (fragmentedIn b) (uncounted b) ≡ slots-in (fragmentedIn b) b
+  uncounted-slots =
+      let f = fragmentedIn b in
+      sym (slots-first f (uncounted b))
+      ∙ ap (slots-in f)
+      (over-take (12 + 4 * f) (12 + 4 * f) (false ∷ false ∷ []) b (omega arith) (omega (arith, flag-low b l)))
+      ∙ slots-first f b
 
 block-length : (h : List ℕ) → length h ≡ 16 → length (bitsOf h) ≡ 128
 block-length h l = omega (arith, length-bitsOf h)
@@ -65,6 +82,13 @@ same-flag h k l n e =
     sym (uncounted-flag (bitsOf h) (block-length h l)) ∙ ap fragmentedIn (same-bits h k l n e)
     ∙ uncounted-flag (bitsOf k) (block-length k n)
 
+same-slots-in : (h k : List ℕ) → length h ≡ 16 → length k ≡ 16 → rawOf h ≡ rawOf k
+    → slots-in (fragmentedIn (bitsOf h)) (bitsOf h) ≡ slots-in (fragmentedIn (bitsOf k)) (bitsOf k)
+same-slots-in h k l n e =
+    sym (uncounted-slots (bitsOf h) (block-length h l))
+    ∙ ap₂ slots-in (same-flag h k l n e) (same-bits h k l n e)
+    ∙ uncounted-slots (bitsOf k) (block-length k n)
+
 -- ---- So it is with two that were read.
 
 -- The SCH/H that a header was read from.
@@ -73,15 +97,33 @@ record ReadFrom (x : Heard) : Type 0 where
   long : length block ≡ 16
   raw : header-in x .raw ≡ rawOf block
   flag : is-fragmented x ≡ eqb (fragmentedIn (bitsOf block)) 1
+  slots : more-in x ≡ slots-in (fragmentedIn (bitsOf block)) (bitsOf block) - 1
 
 -- By the fault that it reads with, and the flag.
-from-header : (b : List ℕ) (h : Header) (more f fault : ℕ) (flag : Bool) → h .raw ≡ rawOf b
-    → (fault ≡ 0 → (length b ≡ 16) × (flag ≡ eqb (fragmentedIn (bitsOf b)) 1))
-    → let x = unfaulted fault (cond flag (fragmented h more f) (unfragmented h f)) in
+from-header : (b : List ℕ) (h : Header) (r : read.Header) (fault : ℕ) (flag : Bool) → h .raw ≡ rawOf b
+    → eqb (r .fragmented) 1 ≡ flag → (fault ≡ 0 → WellRead b r)
+    → let x = unfaulted fault (cond flag (fragmented h (r .count - 1) (r .countdown)) (unfragmented h (r .countdown))) in
     header-in x .for-us ≡ true → ReadFrom x
-from-header b h more f (suc n) flag e w m = absurd-bool m
-from-header b h more f zero true e w m = record { block = b; long = w refl .0; raw = e; flag = w refl .1 }
-from-header b h more f zero false e w m = record { block = b; long = w refl .0; raw = e; flag = w refl .1 }
+from-header b h r (suc n) flag e g w m = absurd-bool m
+from-header b h r zero true e g w m =
+    let y = w refl in
+    record {
+      block = b;
+      long = y .long;
+      raw = e;
+      flag = sym g ∙ ap (λ (n : ℕ). eqb n 1) (y .flag);
+      slots = ap (λ (n : ℕ). n - 1) (y .count);
+    }
+from-header b h r zero false e g w m =
+    let y = w refl in
+    let z = y .alone (omega (arith, y .low, eqb-false (r .fragmented) 1 g)) in
+    record {
+      block = b;
+      long = y .long;
+      raw = e;
+      flag = sym g ∙ ap (λ (n : ℕ). eqb n 1) (y .flag);
+      slots = omega (arith, z, y .count);
+    }
 
 -- By its kind: only one of kind 2 brings a header.
 from-block : (n : ℕ) (last : Bool) (m : List Bool)
@@ -101,23 +143,26 @@ read-from s l = go (eqb (l .kind) 2) (eqb (l .kind) 3)
     go true three m =
         let b = drop 8 (l .blocks) in
         let r = headerIn l in
-        from-header b _ (r .count - 1) (r .countdown) (r .fault) (eqb (r .fragmented) 1) refl
-        (λ z. let w = well-read (l .frame) (l .slot) (take 8 (l .blocks)) b z in
-        (w .long, ap (λ (n : ℕ). eqb n 1) (w .flag))) m
+        from-header b _ r (r .fault) (eqb (r .fragmented) 1) refl refl
+        (well-read (l .frame) (l .slot) (take 8 (l .blocks)) b) m
     go false true m =
         let r = readContinuation (l .blocks) in absurd (from-block (r .fault) (eqb (r .last) 1) _ m)
     go false false m = absurd-bool m
 
-pub same-alike : (s : Settings) (l m : Lent) → header-in (heard s l) .for-us ≡ true
+pub same-read : (s : Settings) (l m : Lent) → header-in (heard s l) .for-us ≡ true
     → header-in (heard s m) .for-us ≡ true → header-in (heard s l) .raw ≡ header-in (heard s m) .raw
-    → is-fragmented (heard s l) ≡ is-fragmented (heard s m)
-same-alike s l m a b e =
+    → (is-fragmented (heard s l) ≡ is-fragmented (heard s m)) × (more-in (heard s l) ≡ more-in (heard s m))
+same-read s l m a b e =
     let x = read-from s l a in
     let y = read-from s m b in
-    x .flag
-    ∙ ap (λ (n : ℕ). eqb n 1)
-    (same-flag (x .block) (y .block) (x .long) (y .long) (sym (x .raw) ∙ e ∙ y .raw))
-    ∙ sym (y .flag)
+    let raw = sym (x .raw) ∙ e ∙ y .raw in (
+      x .flag
+          ∙ ap (λ (n : ℕ). eqb n 1) (same-flag (x .block) (y .block) (x .long) (y .long) raw)
+          ∙ sym (y .flag),
+      x .slots
+          ∙ ap (λ (n : ℕ). n - 1) (same-slots-in (x .block) (y .block) (x .long) (y .long) raw)
+          ∙ sym (y .slots),
+    )
 
 -- ---- A report that brings an unfragmented header for this unit.
 

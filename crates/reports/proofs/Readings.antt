@@ -15,9 +15,7 @@ use Rattle.blocks.specs.Sdu.{sduOf, isThere, bitsIn}
 use Rattle.blocks.specs.Sync.{syncOf, syncChecks}
 use Rattle.blocks.specs.declared.sync.Sync.{Sync}
 use Rattle.blocks.specs.Header.{fragmentedIn, bodyOf, messageOf, bodyChecks, placeRules, reportedFault, headerOf}
-use Rattle.blocks.specs.Header.{answered}
-use Rattle.blocks.specs.Header.{readReported}
-use Rattle.blocks.specs.Header.{readReported}
+use Rattle.blocks.specs.Header.{answered, readReported}
 use Rattle.blocks.specs.Continuation.{blockMessage, continuationChecks, continuationOf, readContinuation}
 use Rattle.blocks.specs.Continuation as block
 use Rattle.blocks.specs.declared.header.Header as read
@@ -61,6 +59,7 @@ pub record WellRead (h : List ℕ) (x : read.Header) : Type 0 where
   pub counted : x .fragmented ≤ x .count
   pub alone : x .fragmented ≡ 0 → x .count ≡ 0
   pub slots : x .count ≤ 15
+  pub count : x .count ≡ field 12 (4 * fragmentedIn (bitsOf h)) (bitsOf h)
   pub falls : x .countdown ≤ 3
   pub flag : x .fragmented ≡ fragmentedIn (bitsOf h)
   pub low : x .fragmented ≤ 1
@@ -82,6 +81,7 @@ header-well y h l k =
     record {
       counted = k .rules .counted;
       alone = λ z. rw z refl;
+      count = refl;
       slots = omega (arith, field-lt 4 12 (4 * fragmentedIn b) b (omega arith));
       falls = omega (arith, field-lt 2 (12 + 4 * fragmentedIn b) 2 b (omega arith));
       flag = refl;
