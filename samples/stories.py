@@ -378,6 +378,62 @@ def missed_block():
     return log
 
 
+def longest():
+    """The longest that a unit is receiving
+
+    While a message comes in, a unit shows "receiving": from its first line with a 3 to the one with the 2. Cage 2 sends
+    the desk its list of kits. It takes fifteen blocks, the most that there are; its header goes out in frames 18, 1, 2
+    and 3, the most that there are too, and only the first is heard. Then the cage sends the list again, and the last
+    block is lost. In the end it begins once more and falls silent.
+
+    ---
+
+    Twice the last block is due 38 lines after the line of the header, and there receiving ends: with a 2, or with a 1
+    under *dropped*. It never takes longer. Four frames for the header, fourteen blocks before the last one and one
+    frame 18 are nineteen frames, 38 lines, just over a second. A block that isn't heard ends it where it is due: at
+    line 83, two lines after the header.
+
+    So, unless the log ends first, a 2 or a 1 under *dropped* comes at the latest 38 lines after the first 3; lines with
+    fault 15 or 16 and lines with a word are not counted. A unit that shows "receiving" for longer is to be tested.
+    """
+    log = Log(18, 1)
+    kits = Message(
+        "Cage 2, Friday's list. In: hammer kits 1 2 3 5 8 9 11 12 14 17 20 21, drill kits 1 3 4 6 7. Out: hammer kit 4 "
+        "tunnel 5 till Monday, 6 tunnel 5 till Monday, 7 quarry 2 till Tuesday, 10 quarry 3 no day, 13 tunnel 1 till "
+        "Monday, 15 tunnel 4 late since Wednesday, 16 quarry 6 till Thursday, drill kit 2 quarry 3 late since Tuesday, "
+        "5 tunnel 4 till Monday, 8 quarry 2 till Friday. In repair: hammer kits 18 and 19, drill kit 9. Short of bits: "
+        "ten of 18 mm, six of 22 mm, by Monday noon.")
+
+    def begin(words):
+        log.header(kits, OPENS, words, 3)
+        log.nothing("its seven repeats were not heard", 7)
+
+    def blocks(numbers, words):
+        for i in numbers:
+            log.block(kits, i, KEPT, words)
+            log.nothing(words)
+
+    def frame_18():
+        log.nothing("frame 18: no block is due", 2)
+
+    begin("the list begins: its header says that fifteen blocks follow, and that the header itself comes in three more "
+          "frames. The unit is receiving")
+    blocks(range(1, 15), "frames 4 to 17: a block in slot 1, kept, and nothing in slot 3")
+    frame_18()
+    log.block(kits, 15, joined(kits.text), "**the last block, 38 lines after the header:** the list is handed over")
+    log.nothing()
+    begin("the cage sends the list again")
+    blocks(range(1, 13), "frames 6 to 17: blocks, kept")
+    frame_18()
+    blocks((13, 14), "frames 1 and 2: blocks, kept")
+    log.nothing("**the last block is due and was not heard:** dropped, again 38 lines after the header", answer=LOST)
+    log.nothing()
+    log.header(kits, OPENS, "the list a third time; the countdown is 0, so the first block is due in the next frame")
+    log.nothing()
+    log.nothing("the cage has fallen silent: dropped where the first block is due", answer=LOST)
+    return log
+
+
 def copies():
     """Copies of a header
 
@@ -581,9 +637,10 @@ def no_unit():
 
 # The stories that go on in calls.
 CALLS = {"june": june_goes_on}
-LOGS = {"june": june, "second-cage": second_cage, "missed-block": missed_block, "copies": copies,
+LOGS = {"june": june, "second-cage": second_cage, "missed-block": missed_block, "longest": longest, "copies": copies,
         "two-cages": two_cages, "goes-back": goes_back, "copy-18-later": copy_18_later, "damaged": damaged,
         "no-unit": no_unit}
 
 # What is lost in a story, by its line: source, message type and bits. At its other lines nothing is.
-LOSSES = {"missed-block": {line: (7, 23, 281) for line in (5, 13, 21)}}
+LOSSES = {"missed-block": {line: (7, 23, 281) for line in (5, 13, 21)},
+          "longest": {79: (7, 23, 17 + 14 * 264), 83: (7, 23, 17)}}

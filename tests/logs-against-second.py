@@ -12,6 +12,9 @@ the printer or an end in the middle; each is a run of the printer by itself, sin
 outcome, every fault that a log can give and each of the three words has to have come. As many runs go at a time as
 there are processors; under the kit's emulator a run takes some 60 ms, most of it to start.
 
+The lines of each log are also held to a law by themselves: where a unit begins to receive (outcome 3), that has ended
+(outcome 2, or dropped 1) at the latest 38 reports later. Over the fresh logs exactly 38 has to have come.
+
 The good log is cut after each of its bytes. A cut within the first record prints `unit`; at a record's end, the lines
 up to there; within a record, the same and `cut`. What the small ones print was worked out by hand: each way to get
 `unit`, `kind` and `cut`, and each limit beside it.
@@ -27,12 +30,14 @@ import sys
 import second
 
 LOGS, TO_A_LONG_ONE = 2000, 200
+LONGEST = 38  # so many reports after the one that began it, receiving has ended
 SAMPLES = os.path.join(second.TOP, "samples")
 # Each of these has to come. Faults 1 and 17 are of lengths, which the log's framing has tested; 13 and 14 are of builds
 # and settings.
 WANTED = ([("outcome", n) for n in range(6)] + [("dropped", n) for n in (0, 1)]
           + [("word", word) for word in ("unit", "kind", "cut")]
-          + [("fault", n) for n in (0, 2, 3, 4, 5, 6, 7, 8, 9, 10, 11, 12, 15, 16, 18)])
+          + [("fault", n) for n in (0, 2, 3, 4, 5, 6, 7, 8, 9, 10, 11, 12, 15, 16, 18)]
+          + [("receiving for", LONGEST)])
 
 
 class Differs(Exception):
@@ -74,13 +79,35 @@ def shown(output):
     return found
 
 
+def received(what, output):
+    """For how many reports units were receiving, counted; stops, with words, where one was for too long. It begins with
+    outcome 3, and ends with outcome 2 or dropped 1; a 3 without a drop is the same header again, and ends nothing.
+    Refused reports and words don't count."""
+    found, began, reports = collections.Counter(), None, 0
+    for number, line in enumerate(second.lines(output), 1):
+        words = line.split()
+        if len(words) != 6 or words[4] in ("15", "16"):
+            continue
+        reports += 1
+        outcome, dropped = words[2:4]
+        if began and (outcome == "2" or dropped == "1"):
+            found[("receiving for", reports - began[1])] += 1
+            began = None
+        if began and reports - began[1] >= LONGEST:
+            raise Differs("%s: receiving since line %d, and still so at line %d, %d reports later: %s"
+                          % (what, began[0], number, LONGEST, line))
+        if outcome == "3" and not began:
+            began = number, reports
+    return found
+
+
 def compare(job):
     sort, seed = job
     given = second.run("make", sort, str(seed))
     output = second.run("print", given=given)
     what = "second make %s %d" % (sort, seed)
     alike(what, given, printer(what, given), output)
-    return shown(output)
+    return shown(output) + received(what, output)
 
 
 def good_log():
@@ -202,9 +229,9 @@ def main():
     missing = ["%s %s" % name for name in WANTED if not found[name]]
     if fresh and len(tried) >= LOGS and missing:
         sys.exit("logs-against-second: never came: %s" % ", ".join(missing))
-    print("logs-against-second: %d logs with %d reports, and the two programs print the same; "
-          "%d prefixes and small logs print what they should"
-          % (len(tried), found["line"], len(fixed)))
+    print("logs-against-second: %d logs with %d reports, and the two programs print the same; receiving for %d reports "
+          "came %d times, for more never; %d prefixes and small logs print what they should"
+          % (len(tried), found["line"], LONGEST, found[("receiving for", LONGEST)], len(fixed)))
 
 
 if __name__ == "__main__":

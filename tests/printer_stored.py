@@ -4,12 +4,12 @@
 printer_stored.py            write both files
 printer_stored.py --check    exit 1, and say what differs, where a stored file is not what this script makes
 
-The log is the second program's sheet of reports (`second slots`): runs from every frame with every countdown, every
-change at every due slot and beside it, every way of being dropped, every two countdowns of a repeat, every two faults
-of a header, frames and slots that there are not, some 2,000 reports of mutated runs, records that print `kind` up to
-the longest that there is; then one that prints `cut`, and a report that is not read. It is held here to have every
-outcome, every fault that a log can give, and both words. `unit` needs a log of its own: logs-against-second.py has
-those.
+The log is the second program's sheet of reports (`second slots`): runs from every frame with every countdown, one
+message cut at fourteen places, every change at every due slot and beside it, every way of being dropped, every two
+countdowns of a repeat, every two faults of a header, frames and slots that there are not, some 2,000 reports of mutated
+runs, records that print `kind` up to the longest that there is; then one that prints `cut`, and a report that is not
+read. It is held here to have every outcome, every fault that a log can give, and both words. `unit` needs a log of its
+own: logs-against-second.py has those.
 """
 import sys
 

@@ -2,7 +2,7 @@
 
 use crate::bits::{fits, pack, spell, unpack, value, Taker};
 use crate::faults::{refuse, Fault};
-use crate::layout::{self, BLOCK_ROOM, HEADER_ROOM};
+use crate::layout::{self, Cut, BLOCK_ROOM, HEADER_ROOM};
 use crate::messages;
 
 /// Bits of SCH/S, SCH/H and SCH/F, and the bytes that hold them.
@@ -352,14 +352,10 @@ pub fn build(fields: &Fields, n: u64, message: &[u8], output: usize) -> Result<B
     refuse(8, types.contains(&RESERVED_ADDRESS))?;
     refuse(9, messages::elements(fields.message_type).is_none())?;
     let cut = layout::cut(header_bits(fields), n as usize)?;
-    let length = HEADER_BYTES + SCH_F_BYTES * cut.blocks;
-    refuse(1, output < length)?;
-    let bits = &unpack(message)[..n as usize];
-    let bytes = write_blocks(fields, bits, cut);
-    Ok(Built {
-        k: cut.blocks,
-        bytes,
-    })
+    let k = cut.blocks.len();
+    refuse(1, output < HEADER_BYTES + SCH_F_BYTES * k)?;
+    let bytes = write_blocks(fields, &unpack(message), &cut).concat();
+    Ok(Built { k, bytes })
 }
 
 /// Fault 13, but for n.
@@ -395,15 +391,16 @@ fn elements_in_range(fields: &Fields) -> bool {
     messages::width(fields.message_type, &run) == Some(width) && fits(fields.elements, width)
 }
 
-fn write_blocks(fields: &Fields, message: &[bool], cut: layout::Cut) -> Vec<u8> {
-    let (head, rest) = message.split_at(cut.head);
-    let mut bytes = sch_s(fields).block();
-    bytes.extend(sch_h(fields, head, cut.blocks).block());
-    for (i, part) in rest.chunks(BLOCK_ROOM).enumerate() {
-        let (fill, room) = add_fill(part, BLOCK_ROOM);
-        bytes.extend(continuation(i + 1 == cut.blocks, fill, &room));
+/// Writes a message that is cut so: the SCH/S with its SCH/H, then each block.
+pub fn write_blocks(fields: &Fields, message: &[bool], cut: &Cut) -> Vec<Vec<u8>> {
+    let (mut taker, k) = (Taker::new(message), cut.blocks.len());
+    let sch_h = sch_h(fields, taker.run(cut.head), k);
+    let mut written = vec![[sch_s(fields).block(), sch_h.block()].concat()];
+    for (i, &length) in cut.blocks.iter().enumerate() {
+        let (fill, room) = add_fill(taker.run(length), BLOCK_ROOM);
+        written.push(continuation(i + 1 == k, fill, &room));
     }
-    bytes
+    written
 }
 
 /// The SCH/S of these fields; fixed and reserved elements are 0.

@@ -9,22 +9,32 @@ pub const BLOCK_ROOM: usize = 264;
 /// Bits of the element 'number of SCH/F slots'.
 pub const COUNT_WIDTH: usize = 4;
 
-/// How a message is cut: bits in the header, and how many continuation blocks come after it.
-#[derive(Clone, Copy, Debug, PartialEq, Eq)]
+/// Where a message is cut: its bits in the header, and in each continuation block after it.
+#[derive(Clone, Debug, PartialEq, Eq)]
 pub struct Cut {
     pub head: usize,
-    pub blocks: usize,
+    pub blocks: Vec<usize>,
+}
+
+impl Cut {
+    /// The message's bits.
+    pub fn bits(&self) -> usize {
+        self.head + self.blocks.iter().sum::<usize>()
+    }
 }
 
 /// Cuts n bits for a header of h bits without the slot count. Faults 9 and 14.
 pub fn cut(h: usize, n: usize) -> Result<Cut, Fault> {
     if h + n <= HEADER_ROOM {
-        return Ok(Cut { head: n, blocks: 0 });
+        let blocks = Vec::new();
+        return Ok(Cut { head: n, blocks });
     }
     refuse(9, h + COUNT_WIDTH > HEADER_ROOM)?;
     let head = HEADER_ROOM - COUNT_WIDTH - h;
-    let blocks = (n - head).div_ceil(BLOCK_ROOM);
-    refuse(14, blocks > 15)?;
+    let count = (n - head).div_ceil(BLOCK_ROOM);
+    refuse(14, count > 15)?;
+    let mut blocks = vec![BLOCK_ROOM; count - 1];
+    blocks.push(n - head - BLOCK_ROOM * (count - 1));
     Ok(Cut { head, blocks })
 }
 
@@ -53,23 +63,27 @@ fn first_due_frame(x: u8, f: u8) -> u8 {
 mod tests {
     use super::*;
 
+    fn parts(head: usize, blocks: &[usize]) -> Result<Cut, Fault> {
+        let blocks = blocks.to_vec();
+        Ok(Cut { head, blocks })
+    }
+
     #[test]
     fn cuts_with_h_93() {
-        let parts = |head, blocks| Ok(Cut { head, blocks });
-        assert_eq!(cut(93, 31), parts(31, 0));
-        assert_eq!(cut(93, 30), parts(30, 0));
-        assert_eq!(cut(93, 32), parts(27, 1));
-        assert_eq!(cut(93, 291), parts(27, 1));
-        assert_eq!(cut(93, 292), parts(27, 2));
-        assert_eq!(cut(93, 3_987), parts(27, 15));
+        assert_eq!(cut(93, 31), parts(31, &[]));
+        assert_eq!(cut(93, 30), parts(30, &[]));
+        assert_eq!(cut(93, 32), parts(27, &[5]));
+        assert_eq!(cut(93, 291), parts(27, &[264]));
+        assert_eq!(cut(93, 292), parts(27, &[264, 1]));
+        assert_eq!(cut(93, 3_987), parts(27, &[264; 15]));
         assert_eq!(cut(93, 3_988), Err(14));
     }
 
     #[test]
     fn headers_with_little_room() {
-        assert_eq!(cut(120, 4).map(|cut| cut.blocks), Ok(0));
-        assert_eq!(cut(120, 5), Ok(Cut { head: 0, blocks: 1 }));
-        assert_eq!(cut(121, 3).map(|cut| cut.blocks), Ok(0));
+        assert_eq!(cut(120, 4), parts(4, &[]));
+        assert_eq!(cut(120, 5), parts(0, &[5]));
+        assert_eq!(cut(121, 3), parts(3, &[]));
         assert_eq!(cut(121, 4), Err(9));
         assert_eq!(cut(128, 0), Err(9));
     }

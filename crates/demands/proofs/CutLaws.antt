@@ -38,7 +38,7 @@ use Rattle.demands.proofs.ReportedLaws.{reported-reads}
 -- ---- A block's part is heard as its bits.
 
 module _ (last : ℕ) (b : List Bool) (h : last ≤ 1) (l : length b ≤ 264) where
-  block-bits : bitsOf (block-bytes last b) ≡ continuationBlock last b
+  pub block-bits : bitsOf (block-bytes last b) ≡ continuationBlock last b
   block-bits = bitsOf-bytesN 34 (continuationBlock last b) (length-block last b l)
 
   pub part-heard : blockHeard (block-bytes last b) (readContinuation (block-bytes last b))
@@ -136,10 +136,10 @@ module _ (c : Call) (r : InRange c) (x : Cut c) where
   pub length-h : length sch-h ≡ 16
   length-h = length-bytesN 16 block
 
-  bits-s : bitsOf sch-s ≡ pack (syncParts (c .sync))
+  pub bits-s : bitsOf sch-s ≡ pack (syncParts (c .sync))
   bits-s = bitsOf-bytesN 8 (pack (syncParts (c .sync))) (length-sync (c .sync))
 
-  bits-h : bitsOf sch-h ≡ block
+  pub bits-h : bitsOf sch-h ≡ block
   bits-h = bitsOf-bytesN 16 block (length-header 1 slots (c .countdown) (c .fields) (x .head) (well .room))
 
   abbrev back : read.Header
@@ -225,7 +225,8 @@ module _ (c : Call) (r : InRange c) (x : Cut c) where
           run = run;
           is-open = is-open;
           unbroken =
-              rw split (unbroken-on (reports s before) (reports s since) header-report (reportOf s l .place) (b .turns .1));
+              let q = reportOf s l .place in
+              rw split (unbroken-on (reports s before) (reports s since) header-report q (b .turns .1));
           in-due = ap (λ (y : Lent). reportOf s y .place) (b .at-last);
           full = refl;
           last = x .last;

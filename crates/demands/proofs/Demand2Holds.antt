@@ -66,7 +66,7 @@ module _ (c : Call) (r : InRange c) where
             (r .table),
       ) refl
 
-  all-lent : length (bits c) ≡ c .n
+  pub all-lent : length (bits c) ≡ c .n
   all-lent =
       let l = r .lent in
       rw (length-take (c .n) (bitsOf (c .message))) (omega (arith, length-bitsOf (c .message)))
@@ -112,15 +112,17 @@ module _ (c : Call) (r : InRange c) where
         rw (fields.no-fault _ _ _ _ _ _ (ranged room))
         (refl, ap (λ (n : ℕ). built c ++ drop n (c .out)) built-length)
 
-    bit-for-bit : (rest : List ℕ) → bitsOf (take (24 + 34 * k c) (built c ++ rest)) ≡ laidOut c
-    bit-for-bit rest =
-        ap bitsOf (take-at (built c) rest (24 + 34 * k c) built-length)
-        ∙ bitsOf-bytesN (24 + 34 * blocksFor (c .fields) (length (bits c))) (laidOut c)
+    pub built-bits : bitsOf (built c) ≡ laidOut c
+    built-bits =
+        bitsOf-bytesN (24 + 34 * blocksFor (c .fields) (length (bits c))) (laidOut c)
         (laws.built-length (bits c) whole)
+
+    bit-for-bit : (rest : List ℕ) → bitsOf (take (24 + 34 * k c) (built c ++ rest)) ≡ laidOut c
+    bit-for-bit rest = ap bitsOf (take-at (built c) rest (24 + 34 * k c) built-length) ∙ built-bits
 
   -- ---- the layout
 
-  abbrev laid-out : ℕ → List Bool
+  abbrev pub laid-out : ℕ → List Bool
   laid-out n =
       let i = inHeader (h c) n in
       let blocks = blocksFor (c .fields) n in
@@ -128,7 +130,7 @@ module _ (c : Call) (r : InRange c) where
       ++ headerBlock (fragmentedFor (c .fields) n) blocks (c .countdown) (c .fields) (take i (bits c)))
       ++ continuationBlocks blocks (drop i (bits c))
 
-  by-n : laidOut c ≡ laid-out (c .n)
+  pub by-n : laidOut c ≡ laid-out (c .n)
   unfolding builtBits
   by-n = ap laid-out all-lent
 

@@ -9,6 +9,7 @@ pub mod Req03Holds
 pub mod Req02Holds
 pub mod SeriesLaws
 pub mod CutLaws
+pub mod BuiltCut
 pub mod BroughtLaws
 pub mod Req12Holds
 pub mod ExamplesHold

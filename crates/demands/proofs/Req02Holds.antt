@@ -53,7 +53,8 @@ module _ (c : HearCall) (t : Taken c) where
           of-these = λ k.
               answers c t .lost (loss u) .0 (record { drops = d; acknowledged = k; its-numbers = refl }) .0;
           of-others = λ n.
-              answers c t .none-lost .1 (λ y l. n (subst IsAcknowledged (one-run (l .drops .is-open) o) (l .acknowledged)));
+              answers c t .none-lost .1
+              (λ y l. n (subst IsAcknowledged (one-run (l .drops .is-open) o) (l .acknowledged)));
         },
         λ e.
             let s = answers c t .joined .0 e in

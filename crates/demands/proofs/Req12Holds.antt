@@ -22,21 +22,23 @@ use Rattle.history.proofs.Lines.{made-of, each-⧺}
 use Rattle.history.proofs.OpenRun.{count-each, grown, Holds, none-held, run-held, holds, found}
 use Rattle.history.proofs.FateHolds.{Next, goes-on, ends, next-is, just-opened}
 use Rattle.history.proofs.LastsHolds as lasts-holds
-use Rattle.history.proofs.LastsHolds.{most, AsRead, Ranged, ranged, closed-when, repeat-stays, theorem-over}
+use Rattle.history.proofs.LastsHolds.{most, AsRead, Ranged, ranged, lasts-most, closed-when, repeat-stays, theorem-over}
 use Rattle.reports.specs.Lent.{Lent, Event, for-unit, heard}
 use Rattle.reports.specs.declared.unit.Settings.{Settings}
 use Rattle.reports.proofs.FlagLaws.{same-read}
 use Rattle.receiver.specs.Reached.{reportOf, reports, Accepted}
 use Rattle.receiver.specs.declared.Receiver.{Receiver}
-use Rattle.receiver.proofs.AcceptedLaws.{all-sized}
+use Rattle.receiver.proofs.AcceptedLaws.{all-sized, passes}
 use Rattle.demands.specs.Calls.{Calls, HearCall, history, current, answer, Taken, Series, none, one-more}
 use Rattle.demands.specs.Demand2.{Call, bits, InRange}
 use Rattle.demands.specs.Demand3.{HandsOver}
-use Rattle.demands.specs.Req12.{Ended, Cut, header-slot, header-lent, BringsCut, longest, OpenSince, Lasts38, Req12}
+use Rattle.demands.specs.Req12.{Ended, Cut, header-slot, header-lent, BringsCut, longest, OpenSince, Lasts38}
+use Rattle.demands.specs.Req12.{Req12}
 use Rattle.demands.proofs.Demand3Holds.{leads, answers}
 use Rattle.demands.proofs.Req02Holds.{req02}
 use Rattle.demands.proofs.SeriesLaws.{series, all-accepted}
 use Rattle.demands.proofs.CutLaws as cut
+use Rattle.demands.proofs.BuiltCut.{as-built}
 use Rattle.demands.proofs.BroughtLaws.{all-brought}
 
 -- ---- Over any list of accepted reports.
@@ -45,12 +47,8 @@ module _ (s : Settings) (ls : Line Event) (a : Every Accepted ls) where
   in-range : {u : Run} → IsOpen (reports s ls) u → Ranged u
   in-range o = ranged (all-sized s ls a) o
 
-  open-until : {u : Run} → IsOpen (reports s ls) u → (count (u .since) < lasts u) × (count (u .since) ≤ 37)
-  open-until {u} o =
-      let k = in-range o in
-      let l = lasts-holds.open-until o k in
-      let h = most (u .place) (u .countdown) (u .more) (k .countdown) (k .blocks) in
-      (l, omega arith)
+  open-until : {u : Run} → IsOpen (reports s ls) u → (count (u .since) < lasts u) × (lasts u ≤ 38)
+  open-until o = let k = in-range o in (lasts-holds.open-until o k, lasts-most k)
 
 over : (s : Settings) (before : Line Event) (o : Lent) (since : Line Event) → Every Accepted ((before ▸ o) ⧺ since)
     → Opens (reportOf s o) → 38 ≤ count since → IsOver (reports s before) (reportOf s o) (reports s since) 38
@@ -75,6 +73,9 @@ module _ {s : Settings} {ls : Line Event} {r : Receiver} (c : Calls s ls r) wher
       go : {a : Assembly} → Holds (reports s ls) a → a .run .held ≡ 1 → (u : Run) × IsOpen (reports s ls) u
       go none-held e = absurd (omega arith)
       go (run-held u o) e = (u, o)
+
+  received : r .assembly .run .held ≡ 1 → (u : Run) × IsOpen (reports s ls) u × (lasts u ≤ 38)
+  received e = let (u, o) = receiving .0 e in (u, o, open-until s ls (leads c .accepted) o .1)
 
 -- A repeat of its own header tells the same number of blocks.
 same-number : (s : Settings) (ls : Line Event) (l : Lent) {u : Run} → (z : Renews (reports s ls) u (reportOf s l))
@@ -160,14 +161,14 @@ ended-by {s} {before} {ls} {cs} {u} a o h l = go (on-and-on a o h)
     go (gone x) = x
     go (goes v p g) = let (y, z) = open-until s (before ⧺ ls) (all-accepted a h) p in absurd (omega arith)
 
-ended-38 : {s : Settings} {before ls : Line Event} {r : Receiver} {cs : Line HearCall} → Calls s before r
-    → r .assembly .run .held ≡ 1 → Series s before ls cs → 38 ≤ count cs → Any Ended cs
-ended-38 {s} {before} c e h l =
-    let (u, o) = receiving c .0 e in
-    let a = leads c .accepted in
-    let k = in-range s before a o in
-    let m = most (u .place) (u .countdown) (u .more) (k .countdown) (k .blocks) in
-    ended-by a o h (omega arith)
+-- After an answer with outcome 3.
+module _ (c : HearCall) (t : Taken c) where
+  by-now : Every Accepted (c .earlier ▸ c .report)
+  by-now = (leads (t .made .calls) .accepted, passes (c .report) (c .old) (t .accepted) .0)
+
+  begun : answer c .outcome ≡ 3
+      → (u : Run) × IsOpen (reports (c .settings) (c .earlier ▸ c .report)) u × (count (u .since) ≡ 0)
+  begun e = (_, just-opened (history c) (current c) (answers c t .opened .0 e) .is-open, refl)
 
 -- ---- A message cut at any places.
 
@@ -256,18 +257,24 @@ reached s w before =
 pub req12 : Req12
 req12 =
     record {
-      in-frames = λ x f i l. frames-closed x f i (omega arith);
+      in-frames = λ x f i l. omega (arith, frames-closed x f i (omega arith));
       in-slots = λ p a b f. lasts-holds.in-slots p f (a, b);
       in-reports = λ p a b f l. lasts-holds.in-reports p f (a, b) l;
       most = most;
       longest-38 = refl;
-      open-until = λ s ls a o. open-until s ls a o;
+      open-until = λ s ls a o. let (l, m) = open-until s ls a o in (l, omega arith);
       handed-in = λ s ls l a c. closed-when c (in-range s ls a (c .is-open));
       over = over;
-      repeated = λ s ls l a z. repeat-stays (in-range s ls a (z .is-open) .frame) z;
+      repeated = λ s ls l a z i. omega (arith, repeat-stays (in-range s ls a (z .is-open) .frame) z i);
       receiving = receiving;
-      ends = λ a o h l. ended-by a o h l;
-      ends-38 = λ c e h l. ended-38 c e h l;
+      ends = λ a o h l. ended-by a o h (omega arith);
+      ends-38 = λ c e h l.
+          let (u, o, m) = received c e in
+          ended-by (leads c .accepted) o h (omega arith);
+      after-3 = λ c t e h l.
+          let (u, o, z) = begun c t e in
+          let (n, m) = open-until (c .settings) (c .earlier ▸ c .report) (by-now c t) o in
+          ended-by (by-now c t) o h (omega arith);
       possible = λ c ls a. series c ls a;
       assoc = join-assoc;
       none-left = join-none-left;
@@ -275,5 +282,7 @@ req12 =
       any-cut = any-cut;
       until-then = until-then;
       brought = λ s c r h x. all-brought s c r h x;
+      as-built = λ c r l few. as-built c r l (omega arith);
       reached = reached;
+      for-5001 = λ group. refl;
     }

@@ -14,7 +14,7 @@ use Rattle.blocks.specs.Sync.{syncParts}
 use Rattle.blocks.specs.Continuation.{readContinuation}
 use Rattle.build.specs.Build.{headerBlock, continuationBlock}
 use Rattle.blocks.specs.declared.header.Fields.{Fields}
-use Rattle.history.specs.Line.{Line, _▸_, _⧺_, count, each, Every, Any}
+use Rattle.history.specs.Line.{Line, start, _▸_, _⧺_, count, each, Every, Any}
 use Rattle.history.specs.Slots.{due, Heard}
 use Rattle.history.specs.History.{History, InTurn, dues, join, NotFragmented, Run, IsOpen, Closes, Opens}
 use Rattle.history.specs.Fate.{Renews}
@@ -25,7 +25,7 @@ use Rattle.reports.specs.declared.unit.Settings.{Settings}
 use Rattle.receiver.specs.Reached.{reportOf, reports, Accepted}
 use Rattle.receiver.specs.declared.Receiver.{Receiver}
 use Rattle.demands.specs.Calls.{Calls, HearCall, answer, Taken, Series}
-use Rattle.demands.specs.Demand2.{Call, bits, h, InRange}
+use Rattle.demands.specs.Demand2.{Call, bits, h, k, built, InRange}
 use Rattle.demands.specs.Demand3.{HandsOver}
 
 -- With this answer an open assembly has ended: its message is handed over, or it is dropped.
@@ -55,6 +55,14 @@ header-bytes c x =
 
 abbrev pub block-bytes : ℕ → List Bool → List ℕ
 block-bytes last b = bytesN 34 (continuationBlock last b)
+
+-- All of them, one after another.
+abbrev pub frags-bytes : Line (List Bool) → List ℕ
+frags-bytes start = []
+frags-bytes (bs ▸ b) = frags-bytes bs ++ block-bytes 0 b
+
+abbrev pub cut-bytes : (c : Call) → Cut c → List ℕ
+cut-bytes c x = header-bytes c x ++ (frags-bytes (x .blocks) ++ block-bytes 1 (x .last))
 
 -- Reported: the header in the slot that it names, a block in a slot.
 abbrev pub header-slot : Call → Place
@@ -115,8 +123,8 @@ pub record Lasts38 (s : Settings) (before : Line Event) : Type 0 where
       Closes (reports s ((before ▸ header-lent longest cut) ⧺ since)) (reportOf s last) (longest .fields) (bits longest)
 
 pub record Req12 : Type 0 where
-  -- 1. How many reports lead from a header's to that of block i, exactly. In frames: one for each repeat and each block,
-  -- and one more where frame 18 lies among those of the blocks.
+  -- 1. How many reports lead from a header's to that of block i, exactly. In frames: one for each repeat and for each
+  -- block up to that one, and one more where frame 18 lies among those of the blocks.
   pub in-frames : (x f i : ℕ) → i ≤ 14 → framesTo x f i ≡ f + suc i + over-18 x f i
   -- In slots: so many slots on comes the due slot of block i.
   pub in-slots : (p : Place) → 1 ≤ p .frame → p .frame ≤ 18 → (f i : ℕ)
@@ -151,6 +159,9 @@ pub record Req12 : Type 0 where
       → IsOpen (reports s before) u → Series s before ls cs → lasts u ≤ count (u .since) + count cs → Any Ended cs
   pub ends-38 : {s : Settings} {before ls : Line Event} {r : Receiver} {cs : Line HearCall} → Calls s before r
       → r .assembly .run .held ≡ 1 → Series s before ls cs → 38 ≤ count cs → Any Ended cs
+  -- So it does over any 38 after an answer with outcome 3, its header's own or a repeat's.
+  pub after-3 : (c : HearCall) → Taken c → answer c .outcome ≡ 3 → {ls : Line Event} {cs : Line HearCall}
+      → Series (c .settings) (c .earlier ▸ c .report) ls cs → 38 ≤ count cs → Any Ended cs
   -- There are such calls, for any reports that can be accepted.
   pub possible : {s : Settings} {before : Line Event} {r : Receiver} → Calls s before r → (ls : Line Event)
       → Every Accepted ls → (cs : Line HearCall) × Series s before ls cs
@@ -173,5 +184,9 @@ pub record Req12 : Type 0 where
       → (since : Line Event) × (l : Lent) × BringsCut s c x since l × Accepted (header-lent c x)
       × Every Accepted (since ▸ l)
       × (suc (count since) ≡ slots-to (header-slot c) (c .countdown) (count (x .blocks)))
-  -- 37 is reached, and 38.
+  -- A build makes one of these cuts: what it writes of a message that takes blocks are the blocks of a cut.
+  pub as-built : (c : Call) → InRange c → 124 < c .n + h c → k c ≤ 15 → (x : Cut c) × (built c ≡ cut-bytes c x)
+  -- 37 is reached, and 38, by every unit that the longest is for; the one with address 5001 is such a unit.
   pub reached : (s : Settings) → for-unit s (longest .fields) ≡ true → (before : Line Event) → Lasts38 s before
+  pub for-5001 : (group : ℕ)
+      → for-unit (record { individual = 5001; group = group; mni = 901 }) (longest .fields) ≡ true

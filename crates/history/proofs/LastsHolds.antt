@@ -223,6 +223,10 @@ ranged {hs} {u} z o =
     let (y, l) = every-parts AsRead (o .before ▸ h) (u .since) (subst (Every AsRead) (o .split) z) in
     record { frame = y .1 .0; countdown = y .1 .1 .2; blocks = y .1 .1 .1 }
 
+-- It lasts at most 38 reports.
+pub lasts-most : {u : Run} → Ranged u → lasts u ≤ 38
+lasts-most {u} k = most (u .place) (u .countdown) (u .more) (k .countdown) (k .blocks)
+
 module _ {hs : History} {u : Run} (o : IsOpen hs u) (k : Ranged u) where
   abbrev to-block : ℕ → ℕ
   to-block i = slots-to (u .place) (u .countdown) i
@@ -284,7 +288,7 @@ still-short : {before : History} {o : Report} {since : History} {u : Run} → Ev
 still-short {since = since} {u} z s =
     let k = ranged z (s .is-open) in
     let l = open-until (s .is-open) k in
-    let h = most (u .place) (u .countdown) (u .more) (k .countdown) (k .blocks) in
+    let h = lasts-most k in
     let e : count (u .since) ≡ count since = ap count (s .its-own) in
     omega arith
 

@@ -102,7 +102,8 @@ record ReadFrom (x : Heard) : Type 0 where
 -- By the fault that it reads with, and the flag.
 from-header : (b : List ℕ) (h : Header) (r : read.Header) (fault : ℕ) (flag : Bool) → h .raw ≡ rawOf b
     → eqb (r .fragmented) 1 ≡ flag → (fault ≡ 0 → WellRead b r)
-    → let x = unfaulted fault (cond flag (fragmented h (r .count - 1) (r .countdown)) (unfragmented h (r .countdown))) in
+    → let f = r .countdown in
+    let x = unfaulted fault (cond flag (fragmented h (r .count - 1) f) (unfragmented h f)) in
     header-in x .for-us ≡ true → ReadFrom x
 from-header b h r (suc n) flag e g w m = absurd-bool m
 from-header b h r zero true e g w m =

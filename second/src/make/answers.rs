@@ -1,8 +1,9 @@
-//! What reports and the lines that answer them tell: the headers heard, and the assemblies dropped.
+//! What reports and the lines that answer them tell: the headers heard, and how assemblies ended.
 
 use super::drops::{BREAK, END_EARLY, FAULT, FRAG_LAST, NOTHING, OTHERS, OWN, UNFRAGMENTED};
 use super::logs::after;
 use crate::blocks::{read_continuation, read_header, Continuation, Header, SCH_S_BYTES};
+use crate::layout::Cut;
 use crate::log::{Record, Records};
 
 /// A report that was not refused: what it brings, and the numbers of its line.
@@ -97,35 +98,46 @@ impl Answered<'_> {
     }
 }
 
-/// An assembly that was dropped: how, its header, how many blocks were kept, and how many bits
-/// were joined.
-pub struct Dropped {
-    pub way: &'static str,
+/// An assembly that ended: how it was dropped, if it was not handed over, its header, and where
+/// what was joined of it is cut.
+pub struct Ended {
+    pub dropped: Option<&'static str>,
     pub header: Header,
-    pub kept: usize,
-    pub bits: usize,
+    pub cut: Cut,
 }
 
-/// The assemblies dropped. The outcomes tell what was open, and which blocks were kept.
-pub fn drops(reports: &[Answered]) -> Vec<Dropped> {
-    let mut drops = Vec::new();
-    let mut open: Option<(Header, Vec<Continuation>)> = None;
+/// The assemblies that ended. The outcomes tell what was open, and which blocks were kept.
+pub fn ended(reports: &[Answered]) -> Vec<Ended> {
+    let mut ended = Vec::new();
+    let mut open: Option<Ended> = None;
     for report in reports {
-        if report.before.is_none() || report.dropped {
-            let ended = open.take().filter(|_| report.dropped);
-            drops.extend(ended.map(|(header, blocks)| Dropped {
-                way: report.way(),
-                kept: blocks.len(),
-                bits: header.length + blocks.iter().map(|block| block.length).sum::<usize>(),
-                header,
-            }));
+        if report.before.is_none() {
+            open = None;
+        }
+        if let Some(mut lost) = open.take_if(|_| report.dropped) {
+            lost.dropped = Some(report.way());
+            ended.push(lost);
         }
         match (report.outcome, &mut open) {
-            ("2", _) => open = None,
-            ("3", _) => open = report.header().map(|header| (header, Vec::new())),
-            ("4", Some((_, blocks))) => blocks.extend(report.block()),
+            ("3", _) => open = report.header().map(begun),
+            ("2" | "4", Some(open)) => {
+                let length = report.block().map(|block| block.length);
+                open.cut.blocks.extend(length);
+            }
             _ => (),
         }
+        ended.extend(open.take_if(|_| report.outcome == "2"));
     }
-    drops
+    ended
+}
+
+fn begun(header: Header) -> Ended {
+    Ended {
+        dropped: None,
+        cut: Cut {
+            head: header.length,
+            blocks: Vec::new(),
+        },
+        header,
+    }
 }

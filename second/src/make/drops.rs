@@ -141,7 +141,7 @@ pub fn put_fault(rng: &mut Rng, slot: &mut Slot, fault: u8) {
 
 #[cfg(test)]
 mod tests {
-    use super::super::answers::{answered, drops};
+    use super::super::answers::{answered, ended};
     use super::super::logs::{for_this_unit, send};
     use super::*;
     use crate::log::print;
@@ -162,10 +162,11 @@ mod tests {
                         let mut log = unit.record();
                         run.iter().for_each(|slot| log.extend(slot.record()));
                         let lines = print(&log);
-                        let drops = drops(&answered(&log, &lines, true));
-                        let first = drops.first().map(|first| (first.way, first.kept));
+                        let ended = ended(&answered(&log, &lines, true));
+                        let first = &ended[0];
                         let kept = all.iter().filter(|&&due| due < at).count();
-                        assert_eq!(first, Some((way.name, kept)));
+                        assert_eq!(first.dropped, Some(way.name));
+                        assert_eq!(first.cut.blocks.len(), kept);
                     }
                 }
             }

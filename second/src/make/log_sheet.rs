@@ -7,8 +7,8 @@ use super::parts::{draw_continuation, fields_of, record};
 use super::parts::{Message, Raw, Unit, HEADER_FAULTS};
 use super::records;
 use super::rng::Rng;
-use crate::blocks::{header_bits, HEADER_BYTES, SCH_F_BYTES};
-use crate::layout::{BLOCK_ROOM, COUNT_WIDTH, HEADER_ROOM};
+use crate::blocks::{HEADER_BYTES, SCH_F_BYTES, TRUE_ADDRESS};
+use crate::layout::{Cut, BLOCK_ROOM};
 use crate::transport::{DM_SDS_ACK, DM_SDS_DATA, DM_SDS_UDATA};
 
 /// The sheet as far as it is written.
@@ -20,17 +20,9 @@ struct Sheet {
 
 /// The whole sheet, with a record that is cut at its end and a report after that.
 pub fn slots() -> Vec<u8> {
-    let mut sheet = Sheet {
-        rng: Rng::new(0, 9),
-        unit: Unit {
-            individual: 5_001,
-            group: 900,
-            mni: 901,
-        },
-        records: Vec::new(),
-    };
-    sheet.records.push(sheet.unit.record());
+    let mut sheet = Sheet::begun();
     sheet.every_run();
+    sheet.every_cut();
     sheet.every_change();
     sheet.every_drop();
     sheet.every_countdown();
@@ -50,33 +42,35 @@ pub fn slots() -> Vec<u8> {
 }
 
 impl Sheet {
+    /// The settings alone.
+    fn begun() -> Sheet {
+        let unit = Unit {
+            individual: 5_001,
+            group: 900,
+            mni: 901,
+        };
+        Sheet {
+            rng: Rng::new(0, 9),
+            records: vec![unit.record()],
+            unit,
+        }
+    }
+
     fn tell(&mut self, slots: &[Slot]) {
         self.records.extend(slots.iter().map(Slot::record));
     }
 
-    /// A fragmented message for this unit of so many blocks.
+    /// A message for this unit of so many blocks.
     fn message(&mut self, blocks: usize) -> Message {
-        let message = for_this_unit(&mut self.rng, &self.unit, true);
-        self.with_blocks(message, blocks)
+        let fields = for_this_unit(&mut self.rng, &self.unit, true).fields;
+        Message::of(&mut self.rng, fields, blocks)
     }
 
     fn message_of(&mut self, message_type: u64, blocks: usize) -> Message {
         let mut fields = fields_of(&mut self.rng, message_type, 0);
         fields.dest = self.rng.pick(&[self.unit.individual, self.unit.group]);
         fields.mni = self.unit.mni;
-        let message = Message {
-            fields,
-            bits: Vec::new(),
-            filled: None,
-        };
-        self.with_blocks(message, blocks)
-    }
-
-    fn with_blocks(&mut self, mut message: Message, blocks: usize) -> Message {
-        let head = HEADER_ROOM - COUNT_WIDTH - header_bits(&message.fields);
-        let last = self.rng.index(BLOCK_ROOM - 4) + 5;
-        message.bits = self.rng.bits(head + (blocks - 1) * BLOCK_ROOM + last);
-        message
+        Message::of(&mut self.rng, fields, blocks)
     }
 
     /// Every frame X with every F, one to fifteen blocks; all headers heard, or one of them.
@@ -92,6 +86,21 @@ impl Sheet {
                 }
                 self.tell(&run);
             }
+        }
+    }
+
+    /// One message, cut at one place and at another: the same bits are handed over each time.
+    fn every_cut(&mut self) {
+        let mut fields = self.message_of(DM_SDS_DATA, 1).fields;
+        (fields.source_type, fields.source) = (TRUE_ADDRESS, 7);
+        let bits = self.rng.bits(BLOCK_ROOM);
+        for (cut, x) in cuts().into_iter().zip((1..=18).cycle()) {
+            let message = Message {
+                fields: fields.clone(),
+                bits: bits.clone(),
+                cut,
+            };
+            self.tell(&send(&message, x, x % 2));
         }
     }
 
@@ -353,6 +362,33 @@ fn once_and_again(messages: &[Message], place: (u8, u8), again: usize) -> Vec<Sl
     slots
 }
 
+/// Cuts of 264 bits where a fragmented header has room for 17.
+fn cuts() -> [Cut; 14] {
+    let parts: [(usize, &[usize]); 14] = [
+        // As they are laid out; in the header a bit less, a bit, none.
+        (17, &[247]),
+        (16, &[248]),
+        (1, &[263]),
+        (0, &[264]),
+        // Empty blocks in front, at the end, in the middle.
+        (0, &[0, 264]),
+        (17, &[0, 0, 247]),
+        (0, &[264, 0]),
+        (17, &[247, 0, 0]),
+        (0, &[132, 0, 132]),
+        // Fifteen blocks: bit by bit and the rest, all alike, all but one of them empty.
+        (17, &[1, 1, 1, 1, 1, 1, 1, 1, 1, 1, 1, 1, 1, 1, 233]),
+        (0, &[250, 1, 1, 1, 1, 1, 1, 1, 1, 1, 1, 1, 1, 1, 1]),
+        (9, &[17; 15]),
+        (0, &[0, 0, 0, 0, 0, 0, 0, 0, 0, 0, 0, 0, 0, 0, 264]),
+        (17, &[247, 0, 0, 0, 0, 0, 0, 0, 0, 0, 0, 0, 0, 0, 0]),
+    ];
+    parts.map(|(head, blocks)| Cut {
+        head,
+        blocks: blocks.to_vec(),
+    })
+}
+
 /// What can go wrong, or seem to, at a report of a run.
 const CHANGES: [Change; 22] = [
     |_, _, run, at| run[at].put(1, Vec::new()),
@@ -440,7 +476,7 @@ const COPIES: [Change; 12] = [
 
 #[cfg(test)]
 mod tests {
-    use super::super::answers::{answered, drops};
+    use super::super::answers::{answered, ended};
     use super::*;
     use crate::blocks::NO_ADDRESS;
     use crate::log::print;
@@ -462,20 +498,37 @@ mod tests {
         assert!(lines.ends_with("\ncut\n"));
     }
 
+    /// Each of them whole, and nothing is dropped.
+    #[test]
+    fn every_cut_is_handed_over() {
+        let mut sheet = Sheet::begun();
+        sheet.every_cut();
+        let sheet = sheet.records.concat();
+        let lines = print(&sheet);
+        let ended = ended(&answered(&sheet, &lines, true));
+        assert!(ended.iter().all(|ended| ended.dropped.is_none()), "{lines}");
+        let joined = ended.into_iter().map(|ended| ended.cut);
+        assert!(joined.eq(cuts()), "{lines}");
+        let whole = lines.lines().filter(|line| line.ends_with(" 2 0 0 264"));
+        assert_eq!(whole.count(), cuts().len(), "{lines}");
+    }
+
     /// With no block kept and with some, and with the source absent.
     #[test]
     fn every_drop_is_there() {
         let sheet = slots();
         let lines = print(&sheet);
         let (mut found, mut absent) = (BTreeSet::new(), BTreeSet::new());
-        for dropped in drops(&answered(&sheet, &lines, true)) {
-            let fields = &dropped.header.fields;
-            found.insert((dropped.way, fields.message_type, dropped.kept > 0));
+        let ended = ended(&answered(&sheet, &lines, true));
+        for ended in ended.iter().filter(|ended| ended.dropped.is_some()) {
+            let fields = &ended.header.fields;
+            let kept = !ended.cut.blocks.is_empty();
+            found.insert((ended.dropped, fields.message_type, kept));
             absent.extend((fields.source_type == NO_ADDRESS).then_some(fields.message_type));
         }
         for message_type in [DM_SDS_DATA, DM_SDS_ACK, DM_SDS_UDATA] {
             for (way, kept) in WAYS.iter().flat_map(|way| [(way, false), (way, true)]) {
-                let wanted = (way.name, message_type, kept);
+                let wanted = (Some(way.name), message_type, kept);
                 assert!(found.contains(&wanted), "{wanted:?}");
             }
             assert!(absent.contains(&message_type), "{message_type}");

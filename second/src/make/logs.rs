@@ -5,8 +5,8 @@ use super::parts::{damage_continuation, draw_continuation, record};
 use super::parts::{Message, Raw, Unit, HEADER_FAULTS};
 use super::records;
 use super::rng::Rng;
-use crate::blocks::{header_bits, ADDRESS, NO_ADDRESS};
-use crate::layout::{due_frame, next_frame, BLOCK_ROOM, COUNT_WIDTH, HEADER_ROOM};
+use crate::blocks::{ADDRESS, NO_ADDRESS};
+use crate::layout::{due_frame, next_frame};
 
 /// A report to be written. `due`: a continuation block was sent here.
 #[derive(Clone)]
@@ -290,11 +290,9 @@ fn earliest(at: usize) -> usize {
 
 /// Fourteen or fifteen blocks after four frames of headers, of which one is heard.
 fn longest(rng: &mut Rng, unit: &Unit, x: u8) -> Vec<Slot> {
-    let mut message = for_this_unit(rng, unit, true);
-    let head = HEADER_ROOM - COUNT_WIDTH - header_bits(&message.fields);
-    let n = rng.between(3_700, (head + 15 * BLOCK_ROOM) as u64);
-    message.bits = rng.bits(n as usize);
-    let mut run = send(&message, x, 3);
+    let fields = for_this_unit(rng, unit, true).fields;
+    let count = rng.pick(&[14, 15, 15, 15]);
+    let mut run = send(&Message::of(rng, fields, count), x, 3);
     let heard = if rng.chance(70) { 0 } else { rng.index(8) };
     for at in (0..8).filter(|&at| at != heard) {
         run[at].put(1, Vec::new());
@@ -338,6 +336,7 @@ pub fn for_another(rng: &mut Rng, unit: &Unit, fragmented: bool) -> Message {
             // The header has room for so many bits more.
             let more = if fragmented { ADDRESS } else { 0 };
             message.bits.extend(rng.bits(more));
+            message.cut.head += more;
         }
     }
     message
@@ -612,4 +611,71 @@ fn eighteen_frames_later(rng: &mut Rng, run: &mut Vec<Slot>) {
         next = after(next);
     }
     push(run, place, 2, header);
+}
+
+#[cfg(test)]
+mod tests {
+    use super::*;
+    use crate::bits::unpack;
+    use crate::blocks::header_bits;
+    use crate::layout;
+    use crate::receiver::{Receiver, Report};
+
+    /// The messages that a fresh receiver joins: so many reports after the first, and their bits.
+    fn joined(unit: &Unit, run: &[Slot]) -> Vec<(usize, Vec<bool>)> {
+        let mut receiver = Receiver::fresh(unit.individual, unit.group, unit.mni).unwrap();
+        let mut joined = Vec::new();
+        for (reports, slot) in run.iter().enumerate() {
+            let report = Report {
+                frame: slot.frame,
+                slot: slot.slot,
+                kind: slot.kind,
+                blocks: &slot.blocks,
+            };
+            let mut buffer = [0x5A; 512];
+            let answer = receiver.report(&report, &mut buffer);
+            if answer.outcome == 2 {
+                joined.push((reports, unpack(&buffer)[..answer.bits].to_vec()));
+            }
+        }
+        joined
+    }
+
+    /// Once, with the last block, and to the bits that it has as it is laid out.
+    #[test]
+    fn a_message_is_joined_wherever_it_is_cut() {
+        let (mut rng, mut otherwise) = (Rng::new(0, 13), 0);
+        for _ in 0..1_000 {
+            let unit = Unit::draw(&mut rng);
+            let message = for_this_unit(&mut rng, &unit, true);
+            let (x, f) = (rng.between(1, 18) as u8, rng.below(4) as u8);
+            let run = send(&message, x, f);
+            let whole = [(run.len() - 1, message.bits.clone())];
+            assert_eq!(joined(&unit, &run), whole, "{:?}", message.cut);
+            let cut = layout::cut(header_bits(&message.fields), message.bits.len()).unwrap();
+            if cut != message.cut && !cut.blocks.is_empty() {
+                otherwise += 1;
+                let laid_out = Message { cut, ..message };
+                let joined = joined(&unit, &send(&laid_out, x, f));
+                assert_eq!(joined.len(), 1);
+                assert_eq!(joined[0].1, laid_out.bits);
+            }
+        }
+        assert!(otherwise > 150, "{otherwise}");
+    }
+
+    /// F + 15 frames after the first header, and one more where frame 18 comes before the last
+    /// block: at most nineteen frames, 38 reports.
+    #[test]
+    fn the_last_of_fifteen_blocks() {
+        let mut rng = Rng::new(0, 14);
+        let unit = Unit::draw(&mut rng);
+        for (x, f) in (1..=18).flat_map(|x| (0..=3).map(move |f| (x, f))) {
+            let fields = for_this_unit(&mut rng, &unit, true).fields;
+            let run = send(&Message::of(&mut rng, fields, 15), x, f);
+            let passes_18 = !(1..=3).contains(&((x + f) % 18 + 1));
+            let frames = usize::from(f) + 15 + usize::from(passes_18);
+            assert_eq!(joined(&unit, &run)[0].0, 2 * frames, "X {x}, F {f}");
+        }
+    }
 }

@@ -1,10 +1,10 @@
 //! What the made inputs are put together from: records, units, fields, headers and damage.
 
 use super::rng::Rng;
-use crate::bits::{pack, value};
-use crate::blocks::{build, header_bits, read_header, sch_h, sch_s, Fields, SchH, SchS};
+use crate::bits::value;
+use crate::blocks::{header_bits, read_header, sch_h, sch_s, write_blocks, Fields, SchH, SchS};
 use crate::blocks::{HEADER_BYTES, NO_ADDRESS, RESERVED_ADDRESS, SCH_F_BYTES, SCH_S_BYTES};
-use crate::layout::{self, BLOCK_ROOM, HEADER_ROOM};
+use crate::layout::{self, Cut, BLOCK_ROOM, HEADER_ROOM};
 use crate::messages;
 use crate::transport::{DM_SDS_ACK, DM_SDS_DATA};
 
@@ -159,44 +159,46 @@ pub fn lengths(h: usize) -> Vec<usize> {
         .collect()
 }
 
-/// A message to be sent: its fields, but for frame, slot and countdown, and its bits. `filled`: of
-/// its part in a fragmented header so many bits are there, and the rest is fill.
+/// A message to be sent: its fields, but for frame, slot and countdown, its bits, and where they
+/// are cut.
 #[derive(Clone)]
 pub struct Message {
     pub fields: Fields,
     pub bits: Vec<bool>,
-    pub filled: Option<usize>,
+    pub cut: Cut,
 }
 
 impl Message {
-    /// A message that a build takes, of one header or of several blocks.
+    /// A message of one header or of several blocks.
     pub fn draw(rng: &mut Rng, fragmented: bool) -> Message {
         loop {
             let fields = match fragmented {
                 true => draw_long_fields(rng),
                 false => draw_fields(rng),
             };
-            let h = header_bits(&fields);
-            if h + 4 <= HEADER_ROOM {
-                let n = if fragmented {
-                    draw_long(rng, h)
-                } else {
-                    rng.index(HEADER_ROOM - h + 1)
-                };
-                let bits = rng.bits(n);
-                // Now and then a fragmented header has fill: a few bits are there, or none.
-                let room = HEADER_ROOM - layout::COUNT_WIDTH - h;
-                let filled = fragmented && room > 0 && rng.chance(10);
-                return Message {
-                    fields,
-                    bits,
-                    filled: filled.then(|| rng.index(room) * rng.index(2)),
-                };
+            if head_room(&fields).is_some() {
+                let count = if fragmented { draw_count(rng) } else { 0 };
+                return Message::of(rng, fields, count);
             }
         }
     }
 
-    /// The built blocks for one frame, slot and countdown: the header, then the k blocks.
+    /// A message of so many blocks, or of one header where that is 0. The header has to have room
+    /// for a slot count.
+    pub fn of(rng: &mut Rng, fields: Fields, count: usize) -> Message {
+        let room = head_room(&fields).expect("there is room for a slot count");
+        let cut = match count {
+            0 => Cut {
+                head: rng.index(room + layout::COUNT_WIDTH + 1),
+                blocks: Vec::new(),
+            },
+            _ => draw_cut(rng, room, count),
+        };
+        let bits = rng.bits(cut.bits());
+        Message { fields, bits, cut }
+    }
+
+    /// The blocks for one frame, slot and countdown: the header, then the others.
     pub fn blocks(&self, frame: u8, slot: u8, countdown: u8) -> Vec<Vec<u8>> {
         let fields = Fields {
             frame: frame.into(),
@@ -204,19 +206,13 @@ impl Message {
             countdown: countdown.into(),
             ..self.fields.clone()
         };
-        let built = build(&fields, self.bits.len() as u64, &pack(&self.bits), 1024);
-        let built = built.expect("a made message can be built");
-        let (header, blocks) = built.bytes.split_at(HEADER_BYTES);
-        let header = match self.filled {
-            Some(there) => {
-                let sch_h = sch_h(&fields, &self.bits[..there], built.k).block();
-                [&header[..SCH_S_BYTES], &sch_h].concat()
-            }
-            None => header.to_vec(),
-        };
-        let blocks = blocks.chunks(SCH_F_BYTES).map(<[u8]>::to_vec);
-        std::iter::once(header).chain(blocks).collect()
+        write_blocks(&fields, &self.bits, &self.cut)
     }
+}
+
+/// The message bits that a fragmented header has room for, if it is not too long.
+fn head_room(fields: &Fields) -> Option<usize> {
+    HEADER_ROOM.checked_sub(header_bits(fields) + layout::COUNT_WIDTH)
 }
 
 /// Fields of a message of several blocks: half of them are a DM-SDS DATA or a DM-SDS ACK, which are
@@ -233,22 +229,44 @@ fn draw_long_fields(rng: &mut Rng) -> Fields {
     fields
 }
 
-/// A number of bits that takes blocks, mostly few of them, now and then at a block's edge.
-fn draw_long(rng: &mut Rng, h: usize) -> usize {
-    let head = HEADER_ROOM - layout::COUNT_WIDTH - h;
-    let k = match rng.below(10) {
+/// A number of blocks, mostly few of them.
+fn draw_count(rng: &mut Rng) -> usize {
+    match rng.below(10) {
         0..=3 => 1,
         4..=6 => 2,
         7 => 3,
         8 => rng.index(5) + 4,
         _ => rng.index(7) + 9,
-    };
+    }
+}
+
+/// Where a message of so many blocks is cut: mostly as it is laid out, its end now and then at a
+/// block's edge; otherwise anywhere.
+fn draw_cut(rng: &mut Rng, room: usize, count: usize) -> Cut {
+    if rng.chance(25) {
+        return Cut {
+            head: draw_part(rng, room),
+            blocks: (0..count).map(|_| draw_part(rng, BLOCK_ROOM)).collect(),
+        };
+    }
     let last = match rng.below(4) {
         0 => BLOCK_ROOM,
         1 => BLOCK_ROOM - 1,
         _ => rng.index(BLOCK_ROOM) + 1,
     };
-    head + (k - 1) * BLOCK_ROOM + last.max(5)
+    // With four bits beyond the room a message needs no block.
+    let last = last.max(layout::COUNT_WIDTH + 1);
+    Cut {
+        head: room,
+        blocks: [vec![BLOCK_ROOM; count - 1], vec![last]].concat(),
+    }
+}
+
+/// So much of a room, often none of it, all, or a bit from there.
+fn draw_part(rng: &mut Rng, room: usize) -> usize {
+    let any = rng.index(room + 1);
+    let part = rng.pick(&[0, 0, 1, room.saturating_sub(1), room, any, any, any]);
+    part.min(room)
 }
 
 /// A header taken apart, to be damaged.
@@ -362,5 +380,41 @@ pub fn damage_continuation(rng: &mut Rng, block: &mut [u8], fault: u8) {
             block[0] = block[0] & 0xE0 | 0x10;
             block[1..].fill(0);
         }
+    }
+}
+
+#[cfg(test)]
+mod tests {
+    use super::*;
+
+    /// Each part within its room; most messages as they are laid out, the others in every sort.
+    #[test]
+    fn every_sort_of_cut_comes() {
+        let mut rng = Rng::new(0, 15);
+        let mut counts = [0; 8];
+        for _ in 0..1_000 {
+            let Message { fields, cut, .. } = Message::draw(&mut rng, true);
+            let (room, count) = (head_room(&fields).unwrap(), cut.blocks.len());
+            assert!(cut.head <= room && cut.blocks.iter().all(|&part| part <= BLOCK_ROOM));
+            assert!((1..=15).contains(&count));
+            let laid_out = layout::cut(header_bits(&fields), cut.bits()).unwrap();
+            let sorts = [
+                cut == laid_out,
+                cut.head == 0 && room > 0,
+                0 < cut.head && cut.head < room,
+                cut.blocks[0] == 0,
+                count > 2 && cut.blocks[1..count - 1].contains(&0),
+                cut.blocks[count - 1] == 0,
+                cut.head == room && cut.blocks.iter().all(|&part| part == BLOCK_ROOM),
+                count == 15 && laid_out.blocks.len() < 15,
+            ];
+            let numbers = sorts.map(usize::from);
+            counts
+                .iter_mut()
+                .zip(numbers)
+                .for_each(|(sum, one)| *sum += one);
+        }
+        assert!((700..850).contains(&counts[0]), "{counts:?}");
+        assert!(counts.iter().all(|&count| count > 2), "{counts:?}");
     }
 }

@@ -1,8 +1,10 @@
 //! How often each answer comes in the made inputs of a range of seeds, and each way of being dropped.
 
-use super::answers::{answered, drops, Answered};
+use super::answers::{answered, ended, Answered, Ended};
 use super::drops::WAYS;
 use super::{calls, log, reports, transport};
+use crate::blocks::header_bits;
+use crate::layout;
 use crate::log::print;
 use crate::probe::probe;
 use crate::transport::{DM_SDS_ACK, DM_SDS_DATA};
@@ -51,7 +53,7 @@ pub fn stats(from: u64, to: u64) -> String {
         }
         let answers = answered(&given, &printed, true);
         count_copies(&mut counts, 0, &answers);
-        count_drops(&mut dropped, 0, &answers);
+        count_ended(&mut counts, &mut dropped, 0, &answers);
         for given in [calls(seed), reports(seed), transport(seed)] {
             let printed = probe(&given);
             for line in printed.lines() {
@@ -59,7 +61,7 @@ pub fn stats(from: u64, to: u64) -> String {
             }
             let answers = answered(&given, &printed, false);
             count_copies(&mut counts, 1, &answers);
-            count_drops(&mut dropped, 1, &answers);
+            count_ended(&mut counts, &mut dropped, 1, &answers);
         }
     }
     let counts = table("", COLUMNS, &counts);
@@ -74,7 +76,7 @@ fn rows() -> Counts {
     let kinds = (0..=4).map(|kind| kind_row(&kind.to_string()));
     let marks = (0..=2).map(|mark| mark_row(&mark.to_string()));
     let copies = (0..=6).map(past_row);
-    let others = ["dropped 1", "line"].into_iter().map(String::from);
+    let others = [LAID_OUT, OTHERWISE, "dropped 1", "line"].map(String::from);
     let words = ["unit", "kind", "cut", "bookings"].map(|word| format!("word {word}"));
     let names = outcomes.chain(faults).chain(kinds).chain(marks);
     let names = names.chain(copies).chain(others).chain(words);
@@ -174,6 +176,10 @@ fn count_copies(counts: &mut Counts, column: usize, reports: &[Answered]) {
     }
 }
 
+/// What is counted of messages that were joined: whether they are cut as their bits are laid out.
+const LAID_OUT: &str = "cut laid out";
+const OTHERWISE: &str = "cut otherwise";
+
 /// What is counted of drops beside their way.
 const NO_BITS: &str = "with 0 bits";
 const NO_BLOCKS: &str = "with 0 blocks";
@@ -187,24 +193,36 @@ fn drop_rows() -> Drops {
         .collect()
 }
 
-/// Counts the drops of the logs (0) or of the calls (1).
-fn count_drops(counts: &mut Drops, sort: usize, reports: &[Answered]) {
-    for dropped in drops(reports) {
-        let column = 3 * sort
-            + match dropped.header.fields.message_type {
-                DM_SDS_DATA => 0,
-                DM_SDS_ACK => 1,
-                _ => 2,
-            };
-        let also = [
-            (NO_BITS, dropped.bits == 0),
-            (NO_BLOCKS, dropped.kept == 0),
-            (NO_SOURCE, dropped.header.fields.source == 0),
-        ];
-        let also = also.iter().filter(|(_, is_so)| *is_so);
-        for name in also.map(|(name, _)| *name).chain([dropped.way]) {
-            add(counts, name.to_string(), column);
+/// Counts the messages joined and the drops of the logs (0) or of the calls (1).
+fn count_ended(counts: &mut Counts, drops: &mut Drops, sort: usize, reports: &[Answered]) {
+    for ended in ended(reports) {
+        match ended.dropped {
+            Some(way) => count_drop(drops, sort, way, &ended),
+            None => {
+                let laid_out = layout::cut(header_bits(&ended.header.fields), ended.cut.bits());
+                let as_laid_out = laid_out == Ok(ended.cut);
+                let name = if as_laid_out { LAID_OUT } else { OTHERWISE };
+                add(counts, name.to_string(), sort);
+            }
         }
+    }
+}
+
+fn count_drop(counts: &mut Drops, sort: usize, way: &str, dropped: &Ended) {
+    let column = 3 * sort
+        + match dropped.header.fields.message_type {
+            DM_SDS_DATA => 0,
+            DM_SDS_ACK => 1,
+            _ => 2,
+        };
+    let also = [
+        (NO_BITS, dropped.cut.bits() == 0),
+        (NO_BLOCKS, dropped.cut.blocks.is_empty()),
+        (NO_SOURCE, dropped.header.fields.source == 0),
+    ];
+    let also = also.iter().filter(|(_, is_so)| *is_so);
+    for name in also.map(|(name, _)| *name).chain([way]) {
+        add(counts, name.to_string(), column);
     }
 }
 
@@ -253,12 +271,16 @@ mod tests {
         for seed in 1..=20 {
             let (given, zeros) = (reports(seed), [0, 0, 0]);
             let printed = probe(&given);
-            let mut dropped = drops(&answered(&given, &printed, false)).into_iter();
+            let ended = ended(&answered(&given, &printed, false));
+            let mut dropped = ended.iter().filter(|ended| ended.dropped.is_some());
             for line in printed.lines().filter(|line| line.starts_with("report ")) {
                 let words: Vec<&str> = line.split(' ').collect();
                 let ended = (words[2] == "1").then(|| dropped.next().unwrap());
                 let lost = ended.map_or(zeros, |ended| match ended.header.fields.message_type {
-                    number @ 23..=24 => [ended.header.fields.source, number, ended.bits as u64],
+                    number @ 23..=24 => {
+                        let bits = ended.cut.bits() as u64;
+                        [ended.header.fields.source, number, bits]
+                    }
                     _ => zeros,
                 });
                 assert_eq!(words[15..], lost.map(|number| number.to_string()), "{line}");
