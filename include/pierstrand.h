@@ -319,6 +319,9 @@ struct pierstrand_fresh_receiver pierstrand_make_receiver(uint32_t individual, u
  * of a DM-SDS DATA or a DM-SDS ACK, `lost` says from whom, of which type and with how many bits. A repeat of
  * its own header loses nothing. What was told lost may still be joined later, from a repeat of its header.
  *
+ * No assembly stays open: at the latest with the 38th report after its header's, refused ones not counted,
+ * its message has been handed over, or it was dropped, however often its header was heard again.
+ *
  *   frame    1 to 18
  *   slot     1 or 3: its number, not its code
  *   kind     enum pierstrand_kind; `length` is 0, 24 or 34 by it

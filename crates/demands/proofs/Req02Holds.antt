@@ -8,11 +8,11 @@ use Rattle.history.specs.Line.{_▸_, _⧺_}
 use Rattle.history.specs.Slots.{no-loss, Report}
 use Rattle.history.specs.Step.{Assembly, dropped-at}
 use Rattle.history.specs.History.{History, Run, IsOpen, Drops, IsAcknowledged, loss, LostTold, none-lost, one-lost}
-use Rattle.history.specs.Fate.{Way, still-open, EndsBy, by-end, by-loss, by-repeat, Still}
+use Rattle.history.specs.Fate.{Way, still-open, EndsBy, by-end, by-drop, by-repeat, Still}
 use Rattle.history.specs.declared.Lost.{Lost}
 use Rattle.history.proofs.OpenRun.{found}
 use Rattle.history.proofs.Theorems.{theorem-dropped}
-use Rattle.history.proofs.FateHolds.{over-mark, anew-mark, not-yet, lost-or-handed-over}
+use Rattle.history.proofs.FateHolds.{over-mark, anew-mark, not-yet, dropped-or-handed-over}
 use Rattle.history.proofs.Verdicts.{absurd-bool}
 use Rattle.demands.specs.Calls.{HearCall, Made, history, current, answer, refusal, Taken}
 use Rattle.demands.specs.Req02.{TellsLoss, Says, Req02}
@@ -46,7 +46,7 @@ module _ (c : HearCall) (t : Taken c) where
         l,
         (last, answers c t .joined-what _ _ x),
       )
-  ended {u} (by-loss o x) =
+  ended {u} (by-drop o x) =
       let d : Drops (history c) (current c) = record { run = u; is-open = o; ends = x } in (
         answers c t .dropped .1 d,
         record {
@@ -92,7 +92,7 @@ types c m = go (refusal c) refl
 pub req02 : Req02
 req02 =
     record {
-      fates = lost-or-handed-over;
+      fates = dropped-or-handed-over;
       ended = λ c t x. ended c t x;
       not-ended = not-ended;
       types = types;

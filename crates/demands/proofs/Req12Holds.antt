@@ -15,7 +15,7 @@ use Rattle.history.specs.Line.{Line, start, _▸_, _⧺_, count, Every, Any}
 use Rattle.history.specs.Slots.{Heard, Header, fragmented, Report, header-in, more-in}
 use Rattle.history.specs.History.{History, Run, IsOpen, Closes, Opens}
 use Rattle.history.specs.Step.{Assembly, after}
-use Rattle.history.specs.Fate.{Way, Renews, EndsBy, by-end, by-loss, by-repeat}
+use Rattle.history.specs.Fate.{Way, Renews, EndsBy, by-end, by-drop, by-repeat}
 use Rattle.history.specs.Lasts.{slots-to, lasts, IsOver}
 use Rattle.history.specs.declared.Place.{Place}
 use Rattle.history.proofs.Lines.{made-of, each-⧺}
@@ -136,7 +136,7 @@ module _ (s : Settings) (now : Line Event) (a : Every Accepted now) (u : Run) (c
       (ap₂ (λ (h : History) (r : Report). h ▸ r) then-is now-is) o)
       (omega arith)
   one-on v g (ends w (by-end last x)) = gone (inr (inl (req02 .ended c t {u = v} (by-end last x) .0)))
-  one-on v g (ends w (by-loss o x)) = gone (inr (inr (req02 .ended c t {u = v} (by-loss o x) .0)))
+  one-on v g (ends w (by-drop o x)) = gone (inr (inr (req02 .ended c t {u = v} (by-drop o x) .0)))
   one-on v g (ends w (by-repeat z)) =
       anew v g
       (subst (λ (r : Report). Renews (reports s now) v r) now-is

@@ -8,7 +8,7 @@ use mathlib.Core.List.{List, _++_}
 use Rattle.history.specs.Line.{_▸_, _⧺_}
 use Rattle.history.specs.Slots.{no-loss, Report}
 use Rattle.history.specs.History.{History, join, Run, IsAcknowledged, loss}
-use Rattle.history.specs.Fate.{Way, still-open, handed-over, lost, opened-anew, EndsBy, Still, LostOrHandedOver}
+use Rattle.history.specs.Fate.{Way, still-open, handed-over, dropped, opened-anew, EndsBy, Still, DroppedOrHandedOver}
 use Rattle.demands.specs.Calls.{HearCall, Made, history, current, answer, Taken}
 use Rattle.demands.specs.Demand3.{HandsOver}
 
@@ -18,18 +18,18 @@ pub record TellsLoss (c : HearCall) (u : Run) : Type 0 where
   pub of-others : (IsAcknowledged (u .header .fields .message) → ⊥) → answer c .lost ≡ no-loss
 
 -- What the answer says of an assembly that ends here, as the run u, in one of the ways; while it is still open, and
--- where it is not lost, nothing of a loss.
+-- where it is not dropped, nothing of a loss.
 abbrev pub Says : HearCall → Run → Way → Type 0
 Says c u still-open = (answer c .dropped ≡ 0) × (answer c .lost ≡ no-loss)
 Says c u handed-over =
     (answer c .outcome ≡ 2) × (answer c .dropped ≡ 0) × (answer c .lost ≡ no-loss)
     × ((last : List Bool) × HandsOver c (u .header .fields) (join (u .header .bits) (u .blocks) ++ last))
-Says c u lost = (answer c .dropped ≡ 1) × TellsLoss c u × (answer c .outcome ≡ 2 → ⊥)
+Says c u dropped = (answer c .dropped ≡ 1) × TellsLoss c u × (answer c .outcome ≡ 2 → ⊥)
 Says c u opened-anew = (answer c .outcome ≡ 3) × (answer c .dropped ≡ 0) × (answer c .lost ≡ no-loss)
 
 pub record Req02 : Type 0 where
   -- Over any reports an assembly that was opened comes to one of the four, never to two, once.
-  pub fates : LostOrHandedOver
+  pub fates : DroppedOrHandedOver
   -- The answer at the report where it ends says how it ended.
   pub ended : (c : HearCall) → Taken c → {u : Run} {w : Way} → EndsBy (history c) u (current c) w → Says c u w
   -- Until then nothing is told: at a report after which it is still open.

@@ -1,4 +1,4 @@
--- An assembly is handed over, lost, opened anew or still open, and only one of these, once. Assumes nothing.
+-- An assembly is handed over, dropped, opened anew or still open, and only one of these, once. Assumes nothing.
 use Prim.Native.Nat.{ℕ, suc}
 use native.Mathlib.Omega.{arith}
 use mathlib.Core.Path.{_≡_, refl, sym, _∙_, ap, subst, subst⁻¹}
@@ -17,8 +17,8 @@ use Rattle.history.specs.Step.{Assembly, Answer, no-assembly, in-turn, r
 use Rattle.history.specs.Step.{after, step, answer, dropped-at}
 use Rattle.history.specs.History.{History, final, InTurn, Unbroken, NotFragmented, Run, IsOpen, next-due, join}
 use Rattle.history.specs.History.{Closes, Keeps, Opens, DueKind, Ends, broken, other-header, missed, Drops}
-use Rattle.history.specs.Fate.{Way, still-open, handed-over, lost, opened-anew, Renews, EndsBy, by-end, by-loss}
-use Rattle.history.specs.Fate.{by-repeat, Still, Fate, not-ended, ended, HasFate, LostOrHandedOver}
+use Rattle.history.specs.Fate.{Way, still-open, handed-over, dropped, opened-anew, Renews, EndsBy, by-end}
+use Rattle.history.specs.Fate.{by-drop, by-repeat, Still, Fate, not-ended, ended, HasFate, DroppedOrHandedOver}
 use Rattle.history.proofs.Lines.{both, ⧺-assoc, ⧺-cancel, every-parts}
 use Rattle.history.proofs.Verdicts.{absurd-bool, Comes, passing, missing, keeping, closing, heading}
 use Rattle.history.proofs.Verdicts.{rest, rest-at, lost-at, comes-at}
@@ -34,8 +34,8 @@ pub data Next (hs : History) (u : Run) (r : Report) : Type 0 where
   ends : (w : Way) → EndsBy hs u r w → Next hs u r
 
 module _ {hs : History} (u : Run) (r : Report) (o : IsOpen hs u) where
-  dropped : Ends hs u r → Next hs u r
-  dropped e = ends lost (by-loss o e)
+  drops : Ends hs u r → Next hs u r
+  drops e = ends dropped (by-drop o e)
 
   -- A header, its own or not.
   headed : Unbroken hs (r .place) → (h : Header) (more f : ℕ) → r .heard ≡ fragmented h more f → Next hs u r
@@ -54,7 +54,7 @@ module _ {hs : History} (u : Run) (r : Report) (o : IsOpen hs u) where
             holds = e;
             repeats = repeat-true u r h f z;
           }))
-      go false z = dropped (other-header h more f e (λ y. absurd-bool (sym z ∙ repeat-is u r h f y)))
+      go false z = drops (other-header h more f e (λ y. absurd-bool (sym z ∙ repeat-is u r h f y)))
 
   -- A slot that is not due, and one that is, by what it held.
   passed : Unbroken hs (r .place) → NotFragmented (r .heard) → same-place (r .place) (next-due u) ≡ false → Next hs u r
@@ -62,7 +62,7 @@ module _ {hs : History} (u : Run) (r : Report) (o : IsOpen hs u) where
 
   missed-at : same-place (r .place) (next-due u) ≡ true → NotFragmented (r .heard) → (DueKind u (r .heard) → ⊥)
       → Next hs u r
-  missed-at d n z = dropped (missed (same-place-true (r .place) (next-due u) d) n z)
+  missed-at d n z = drops (missed (same-place-true (r .place) (next-due u) d) n z)
 
   at-due : Unbroken hs (r .place) → same-place (r .place) (next-due u) ≡ true → NotFragmented (r .heard) → (x : Heard)
       → r .heard ≡ x → Next hs u r
@@ -115,7 +115,7 @@ module _ {hs : History} (u : Run) (r : Report) (o : IsOpen hs u) where
       by-kind k (end b) e = by-slot k (rw e refl) (same-place (r .place) (next-due u)) refl
 
       go : (t : Bool) → in-turn (after hs .last) (r .place) ≡ t → Next hs u r
-      go false t = dropped (broken (λ k. absurd-bool (sym t ∙ turn-is hs (r .place) k)))
+      go false t = drops (broken (λ k. absurd-bool (sym t ∙ turn-is hs (r .place) k)))
       go true t = by-kind (turn-true hs (r .place) t) (r .heard) refl
 
 -- ---- Never neither.
@@ -208,13 +208,13 @@ module _ {hs : History} {r : Report} where
 
   one-way : {u v : Run} {w w′ : Way} → EndsBy hs u r w → EndsBy hs v r w′ → w ≡ w′
   one-way (by-end l c) (by-end l′ c′) = refl
-  one-way (by-end l c) (by-loss o x) = absurd (not-dropped (over-mark c) o x)
+  one-way (by-end l c) (by-drop o x) = absurd (not-dropped (over-mark c) o x)
   one-way (by-end l c) (by-repeat z) = absurd (not-a-header c z)
-  one-way (by-loss o x) (by-end l c) = absurd (not-dropped (over-mark c) o x)
-  one-way (by-loss o x) (by-loss o′ x′) = refl
-  one-way (by-loss o x) (by-repeat z) = absurd (not-dropped (anew-mark z) o x)
+  one-way (by-drop o x) (by-end l c) = absurd (not-dropped (over-mark c) o x)
+  one-way (by-drop o x) (by-drop o′ x′) = refl
+  one-way (by-drop o x) (by-repeat z) = absurd (not-dropped (anew-mark z) o x)
   one-way (by-repeat z) (by-end l c) = absurd (not-a-header c z)
-  one-way (by-repeat z) (by-loss o x) = absurd (not-dropped (anew-mark z) o x)
+  one-way (by-repeat z) (by-drop o x) = absurd (not-dropped (anew-mark z) o x)
   one-way (by-repeat z) (by-repeat z′) = refl
 
 -- A report in turn that brings no fragmented header and drops an assembly leaves none.
@@ -237,7 +237,7 @@ dropped-none {hs} {r} d k n =
 none-after : {hs : History} {r : Report} {u : Run} {w : Way} → EndsBy hs u r w → Unbroken hs (r .place)
     → NotFragmented (r .heard) → At (hs ▸ r) no-assembly
 none-after {hs} {r} (by-end l c) k n = closed hs r _ _ c
-none-after {u = u} (by-loss o x) k n = dropped-none (record { run = u; is-open = o; ends = x }) k n
+none-after {u = u} (by-drop o x) k n = dropped-none (record { run = u; is-open = o; ends = x }) k n
 none-after (by-repeat z) k n = absurd-bool (sym n ∙ ap is-fragmented (z .holds))
 
 -- What ended is never open again: after these reports, and any others.
@@ -307,5 +307,5 @@ one-fate {before} {o} (ended a l r u w e s x) (ended b m q v w′ e′ t y) = go
     go (earlier-in n i) =
         absurd (never-again before o b q n (subst (λ (h : History). Still before o h u) i s) (none-after y))
 
-pub lost-or-handed-over : LostOrHandedOver
-lost-or-handed-over = record { some = λ before o since y. some-fate before o y since; only = one-fate }
+pub dropped-or-handed-over : DroppedOrHandedOver
+dropped-or-handed-over = record { some = λ before o since y. some-fate before o y since; only = one-fate }

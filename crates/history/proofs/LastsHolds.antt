@@ -15,8 +15,8 @@ use Rattle.history.specs.Line.{Line, start, _▸_, _⧺_, count, each, E
 use Rattle.history.specs.Slots.{same-place, next, tick, due, Heard, fragmented, frag, Report}
 use Rattle.history.specs.History.{History, final, InTurn, Unbroken, frames, dues, Run, IsOpen, next-due, Closes}
 use Rattle.history.specs.History.{Opens}
-use Rattle.history.specs.Fate.{Way, still-open, handed-over, lost, opened-anew, Renews, EndsBy, by-end, by-loss}
-use Rattle.history.specs.Fate.{by-repeat, Still, Fate, not-ended, ended}
+use Rattle.history.specs.Fate.{Way, still-open, handed-over, dropped, opened-anew, Renews, EndsBy, by-end}
+use Rattle.history.specs.Fate.{by-drop, by-repeat, Still, Fate, not-ended, ended}
 use Rattle.history.specs.Lasts.{slots-on, slots-to, over-18, lasts, IsOver}
 use Rattle.history.specs.declared.Place.{Place}
 use Rattle.history.proofs.Lines.{⧺-assoc, every-parts}
@@ -24,7 +24,7 @@ use Rattle.history.proofs.Turns.{slot-after, next-range, frame-after, n
 use Rattle.history.proofs.Verdicts.{absurd-bool}
 use Rattle.history.proofs.OpenRun.{same-place-true, same-place-is, turns-on, count-each}
 use Rattle.history.proofs.Bounds.{Sized, Framed}
-use Rattle.history.proofs.FateHolds.{lost-or-handed-over}
+use Rattle.history.proofs.FateHolds.{dropped-or-handed-over}
 
 -- ---- Slots, counted.
 
@@ -295,17 +295,17 @@ still-short {since = since} {u} z s =
 abbrev open-way : Way → Bool
 open-way still-open = true
 open-way handed-over = false
-open-way lost = false
+open-way dropped = false
 open-way opened-anew = false
 
 ended-way : {hs : History} {u : Run} {r : Report} {w : Way} → EndsBy hs u r w → w ≡ still-open → ⊥
 ended-way (by-end l c) e = absurd-bool (ap open-way e)
-ended-way (by-loss o x) e = absurd-bool (ap open-way e)
+ended-way (by-drop o x) e = absurd-bool (ap open-way e)
 ended-way (by-repeat z) e = absurd-bool (ap open-way e)
 
 pub theorem-over : (before : History) (o : Report) (since : History) → Every AsRead ((before ▸ o) ⧺ since) → Opens o
     → 38 ≤ count since → IsOver before o since 38
-theorem-over before o since z y l = go (lost-or-handed-over .some before o since y .fate)
+theorem-over before o since z y l = go (dropped-or-handed-over .some before o since y .fate)
   where
     go : {w : Way} {n : ℕ} → Fate before o since w n → IsOver before o since 38
     go (not-ended u s) = let h = still-short z s in absurd (omega arith)

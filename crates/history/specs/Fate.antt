@@ -1,5 +1,5 @@
--- What becomes of an assembly: over any reports it is handed over, lost, opened anew by its own repeat, or still open,
--- and only one of these, once. Nothing here runs the step.
+-- What becomes of an assembly: over any reports it is handed over, dropped, opened anew by its own repeat, or still
+-- open, and only one of these, once. Nothing here runs the step.
 use Prim.Native.Nat.{ℕ, suc}
 use mathlib.Core.Path.{_≡_}
 use mathlib.Core.Bool.{Bool}
@@ -10,7 +10,7 @@ use Rattle.history.specs.History.{History, Unbroken, join, Run, IsOpen, 
 
 -- What becomes of an opened assembly.
 pub data Way : Type 0 where
-  still-open handed-over lost opened-anew : Way
+  still-open handed-over dropped opened-anew : Way
 
 -- The report brings the open run's own header again, before its first block.
 pub record Renews (hs : History) (u : Run) (r : Report) : Type 0 where
@@ -26,7 +26,7 @@ pub record Renews (hs : History) (u : Run) (r : Report) : Type 0 where
 pub data EndsBy (hs : History) (u : Run) (r : Report) : Way → Type 0 where
   by-end : (last : List Bool) → Closes hs r (u .header .fields) (join (u .header .bits) (u .blocks) ++ last)
       → EndsBy hs u r handed-over
-  by-loss : IsOpen hs u → Ends hs u r → EndsBy hs u r lost
+  by-drop : IsOpen hs u → Ends hs u r → EndsBy hs u r dropped
   by-repeat : Renews hs u r → EndsBy hs u r opened-anew
 
 -- The assembly that report o opened, as the run u, is open after the reports since.
@@ -46,7 +46,7 @@ pub record HasFate (before : History) (o : Report) (since : History) : Type 0 wh
   pub at : ℕ
   pub fate : Fate before o since way at
 
-pub record LostOrHandedOver : Type 0 where
+pub record DroppedOrHandedOver : Type 0 where
   -- Never neither: every assembly that a report opens comes to one of the four.
   pub some : (before : History) (o : Report) (since : History) → Opens o → HasFate before o since
   -- Never both, and once: to one of them only, at one report only.
