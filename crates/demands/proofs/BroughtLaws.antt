@@ -1,8 +1,8 @@
 -- Every cut of a message can be reported in the slots of its layout, and no such report is refused. Assumes nothing.
-use mathlib.Core.Path.{_≡_, refl, sym, ap, subst, subst⁻¹, _∙_}
+use mathlib.Core.Path.{_≡_, refl, sym, ap, ap₂, subst, _∙_}
 use mathlib.Core.Logic.{_↔_, _⊎_, ⊎-elim}
 use mathlib.Core.Bool.{Bool, true, false, cond}
-use mathlib.Core.List.{List, [], _++_}
+use mathlib.Core.List.{List, []}
 use Prim.Native.Nat.{ℕ, zero, suc, _+_, _-_, _≤_, _<_}
 use native.Mathlib.Omega.{arith}
 use lib.Dec.{eqb}
@@ -18,7 +18,6 @@ use Rattle.history.specs.declared.Place.{Place}
 use Rattle.history.proofs.Turns.{slot-after}
 use Rattle.history.proofs.OpenRun.{same-place-true, same-place-is, count-each}
 use Rattle.history.proofs.Outcomes.{untrue}
-use Rattle.history.proofs.Bounds.{Framed}
 use Rattle.history.proofs.LastsHolds.{framed-on, final-on, to-come, due-next}
 use Rattle.reports.specs.Lent.{Lent, Event, lent, brought, heardSlot, heard}
 use Rattle.reports.specs.declared.unit.Settings.{Settings}
@@ -90,15 +89,9 @@ module _ (s : Settings) (c : Call) (r : InRange c) where
         → dues (p .frame) (c .countdown) (reports s (ls ▸ l))
         ≡ cond b (each frag-heard bs ▸ heard s l) (each frag-heard bs)
     more-held l e b h =
-        let d : ℕ → Place = due (p .frame) (c .countdown) in
-        ap (λ (z : Place). cond (same-place z (d (count (dues (p .frame) (c .countdown) (reports s ls)))))
-        (dues (p .frame) (c .countdown) (reports s ls) ▸ heard s l) (dues (p .frame) (c .countdown) (reports s ls))) e
-        ∙ ap (λ (i : ℕ). cond (same-place q (d i))
-        (dues (p .frame) (c .countdown) (reports s ls) ▸ heard s l) (dues (p .frame) (c .countdown) (reports s ls)))
-        kept
-        ∙ ap (λ (t : Bool). cond t
-        (dues (p .frame) (c .countdown) (reports s ls) ▸ heard s l) (dues (p .frame) (c .countdown) (reports s ls))) h
-        ∙ ap (λ (y : Line Heard). cond b (y ▸ heard s l) y) (a .held)
+        ap₂ (λ (t : Bool) (y : Line Heard). cond t (y ▸ heard s l) y)
+        (ap₂ (λ (z : Place) (i : ℕ). same-place z (due (p .frame) (c .countdown) i)) e kept ∙ h)
+        (a .held)
 
     passes : (l : Lent) → reportOf s l .place ≡ q → brought (l .kind) (length (l .blocks)) ≡ true → Accepted l
     passes l e b =

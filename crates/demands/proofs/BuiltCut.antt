@@ -8,7 +8,7 @@ use native.Mathlib.Omega.{arith}
 use lib.ListN.{length, take, drop, length-take, length-drop, take-append-drop}
 use lib.Seq.{take-all, take-add, drop-drop}
 use borrow.Author.Tests.{lt-leb}
-use Rattle.bits.specs.Bits.{bytesN, bitsOf, AllBytes}
+use Rattle.bits.specs.Bits.{bitsOf, AllBytes}
 use Rattle.bits.specs.Layout.{pack}
 use Rattle.bits.proofs.Bytes.{bitsOf-append, bytesN-bytes, bytes-append, bitsOf-inj}
 use Rattle.bits.proofs.Runs.{join-assoc}

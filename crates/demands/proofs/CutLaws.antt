@@ -1,7 +1,7 @@
 -- A message cut at any places, from the bytes of its blocks to its bits. Assumes nothing.
 use mathlib.Core.Path.{_≡_, refl, sym, ap, ap₂, _∙_}
 use mathlib.Core.Bool.{Bool, true, cond}
-use mathlib.Core.List.{List, _++_}
+use mathlib.Core.List.{List}
 use Prim.Native.Nat.{ℕ, suc, _+_, _-_, _≤_}
 use native.Mathlib.Omega.{arith}
 use lib.Dec.{eqb, ltb}
@@ -13,7 +13,7 @@ use Rattle.bits.proofs.Bytes.{length-bytesN, bitsOf-bytesN}
 use Rattle.blocks.specs.Sdu.{fillTold, bitsIn}
 use Rattle.blocks.specs.Sync.{syncParts}
 use Rattle.blocks.specs.Header.{sduAt, readHeader, readReported}
-use Rattle.blocks.specs.Continuation.{blockMessage, readContinuation}
+use Rattle.blocks.specs.Continuation.{readContinuation}
 use Rattle.blocks.specs.declared.header.Header as read
 use Rattle.blocks.specs.declared.continuation.Continuation.{Continuation}
 use Rattle.blocks.proofs.WidthLaws.{width-listed}
@@ -22,16 +22,15 @@ use Rattle.build.proofs.BuildLaws.{told-le, length-block}
 use Rattle.build.proofs.BuiltLaws.{length-sync, length-header}
 use Rattle.build.proofs.RoundTripLaws.{Reads, header-reads, header-message, block-reads, block-message}
 use Rattle.history.specs.Line.{Line, start, _▸_, _⧺_, count, each, Every}
-use Rattle.history.specs.Slots.{due, Header, Heard, fragmented, frag, end, Report}
+use Rattle.history.specs.Slots.{Header, Heard, fragmented, frag, end, Report}
 use Rattle.history.specs.History.{History, NotFragmented, Run, IsOpen, Closes}
-use Rattle.history.specs.declared.Place.{Place}
 use Rattle.history.proofs.Lines.{each-⧺}
 use Rattle.history.proofs.OpenRun.{unbroken-on, join-more}
 use Rattle.reports.specs.Lent.{Lent, Event, for-unit, rawOf, unfaulted, headerHeard, blockHeard, heard}
 use Rattle.reports.specs.declared.unit.Settings.{Settings}
 use Rattle.receiver.specs.Reached.{reportOf, reports}
 use Rattle.demands.specs.Demand2.{Call, bits, InRange}
-use Rattle.demands.specs.Req12.{Cut, header-bytes, block-bytes, header-slot, header-lent, block-lent, frag-heard}
+use Rattle.demands.specs.Req12.{Cut, block-bytes, header-slot, header-lent, frag-heard}
 use Rattle.demands.specs.Req12.{BringsCut}
 use Rattle.demands.proofs.ReportedLaws.{reported-reads}
 

@@ -15,7 +15,7 @@ use Rattle.history.proofs.Theorems.{theorem-dropped}
 use Rattle.history.proofs.FateHolds.{over-mark, anew-mark, not-yet, dropped-or-handed-over}
 use Rattle.history.proofs.Verdicts.{absurd-bool}
 use Rattle.demands.specs.Calls.{HearCall, Made, history, current, answer, refusal, Taken}
-use Rattle.demands.specs.Req02.{TellsLoss, Says, Req02}
+use Rattle.demands.specs.Req02.{Says, Req02}
 use Rattle.demands.proofs.Demand3Holds.{given, answers, demand3}
 
 told-types : {hs : History} {r : Report} {x : Lost} → LostTold hs r x → (x ≡ no-loss) ⊎ IsAcknowledged (x .message)

@@ -1,23 +1,21 @@
 -- Request 12 holds. Assumes nothing.
 use mathlib.Core.Path.{_≡_, refl, sym, ap, ap₂, subst, subst⁻¹, _∙_}
-use mathlib.Core.Logic.{_↔_, _⊎_, inl, inr}
-use mathlib.Core.Bool.{Bool, true, false}
+use mathlib.Core.Logic.{_↔_, inl, inr}
+use mathlib.Core.Bool.{Bool, true}
 use mathlib.Core.List.{List, [], _∷_}
-use Prim.Native.Nat.{ℕ, suc, _+_, _≤_, _<_}
+use Prim.Native.Nat.{ℕ, _+_, _≤_, _<_}
 use native.Mathlib.Omega.{arith}
 use lib.ListN.{length, take, drop}
 use Rattle.bits.specs.Bits.{bit, num, testBit, bitsN, bitsOf}
 use Rattle.bits.proofs.Runs.{join-assoc, join-none-left, join-none-right}
 use Rattle.blocks.specs.Widths.{entryOf, widthOf}
 use Rattle.blocks.proofs.SlotLaws.{frames-closed}
-use Rattle.blocks.specs.declared.header.Fields.{Fields}
 use Rattle.history.specs.Line.{Line, start, _▸_, _⧺_, count, Every, Any}
-use Rattle.history.specs.Slots.{Heard, Header, fragmented, Report, header-in, more-in}
+use Rattle.history.specs.Slots.{Heard, fragmented, Report, header-in, more-in}
 use Rattle.history.specs.History.{History, Run, IsOpen, Closes, Opens}
 use Rattle.history.specs.Step.{Assembly, after}
-use Rattle.history.specs.Fate.{Way, Renews, EndsBy, by-end, by-drop, by-repeat}
+use Rattle.history.specs.Fate.{Renews, by-end, by-drop, by-repeat}
 use Rattle.history.specs.Lasts.{slots-to, lasts, IsOver}
-use Rattle.history.specs.declared.Place.{Place}
 use Rattle.history.proofs.Lines.{made-of, each-⧺}
 use Rattle.history.proofs.OpenRun.{count-each, grown, Holds, none-held, run-held, holds, found}
 use Rattle.history.proofs.FateHolds.{Next, goes-on, ends, next-is, just-opened}

@@ -1,6 +1,5 @@
 -- Calls of one receiver, one after another. Assumes nothing.
 use mathlib.Core.Path.{_≡_, refl}
-use Prim.Native.Nat.{ℕ}
 use lib.ListN.{replicate}
 use Rattle.history.specs.Line.{Line, start, _▸_, _⧺_, Every}
 use Rattle.reports.specs.Lent.{Event}

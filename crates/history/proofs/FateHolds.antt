@@ -3,19 +3,19 @@ use Prim.Native.Nat.{ℕ, suc}
 use native.Mathlib.Omega.{arith}
 use mathlib.Core.Path.{_≡_, refl, sym, _∙_, ap, subst, subst⁻¹}
 use mathlib.Core.Bool.{Bool, true, false, not}
-use mathlib.Core.List.{List, _++_}
+use mathlib.Core.List.{List}
 use lib.Dec.{eqb}
 use borrow.Author.Tests.{eqb-true, eqb-false}
 use Rattle.history.specs.Line.{Line, start, _▸_, _⧺_, count, each, Every}
 use Rattle.history.specs.Slots.{same-place, next, Header, Heard, nothing, fragmented, unfragmented, frag, end}
-use Rattle.history.specs.Slots.{Report, is-fragmented, header-in}
+use Rattle.history.specs.Slots.{Report, is-fragmented}
 use Rattle.blocks.specs.declared.header.Fields.{Fields}
 use Rattle.history.specs.declared.Place.{Place}
 use Rattle.history.specs.declared.Near.{Near}
 use Rattle.history.specs.declared.Verdict.{Verdict}
 use Rattle.history.specs.Step.{Assembly, Answer, no-assembly, in-turn, renews, broken-off, changed}
 use Rattle.history.specs.Step.{after, step, answer, dropped-at}
-use Rattle.history.specs.History.{History, final, InTurn, Unbroken, NotFragmented, Run, IsOpen, next-due, join}
+use Rattle.history.specs.History.{History, final, InTurn, Unbroken, NotFragmented, Run, IsOpen, next-due}
 use Rattle.history.specs.History.{Closes, Keeps, Opens, DueKind, Ends, broken, other-header, missed, Drops}
 use Rattle.history.specs.Fate.{Way, still-open, handed-over, dropped, opened-anew, Renews, EndsBy, by-end}
 use Rattle.history.specs.Fate.{by-drop, by-repeat, Still, Fate, not-ended, ended, HasFate, DroppedOrHandedOver}

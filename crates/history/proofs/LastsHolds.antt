@@ -1,5 +1,5 @@
 -- How many reports lead from a header's to those of its blocks. Assumes nothing.
-use Prim.Native.Nat.{ℕ, zero, suc, _+_, _-_, _*_, _%_, _≤_, _<_}
+use Prim.Native.Nat.{ℕ, zero, suc, _+_, _*_, _%_, _≤_, _<_}
 use native.Mathlib.Omega.{arith}
 use mathlib.Core.Path.{_≡_, refl, sym, _∙_, ap, subst, subst⁻¹}
 use mathlib.Core.Logic.{_↔_, inl, inr}
@@ -11,7 +11,7 @@ use Rattle.blocks.specs.Slots.{nextFrame, framesTo, dueFrame}
 use Rattle.blocks.proofs.SlotLaws.{Passes, first-soon, after-headers, in-order, next-soon, due-range, frames-closed}
 use Rattle.blocks.proofs.SlotLaws.{frames-from}
 use Rattle.blocks.specs.declared.header.Fields.{Fields}
-use Rattle.history.specs.Line.{Line, start, _▸_, _⧺_, count, each, Every}
+use Rattle.history.specs.Line.{Line, start, _▸_, _⧺_, count, Every}
 use Rattle.history.specs.Slots.{same-place, next, tick, due, Heard, fragmented, frag, Report}
 use Rattle.history.specs.History.{History, final, InTurn, Unbroken, frames, dues, Run, IsOpen, next-due, Closes}
 use Rattle.history.specs.History.{Opens}
