@@ -78,7 +78,7 @@ length-block last m h =
     let p = continuationParts last (fillTold 264 m) in
     length-append (pack p) (roomBits 264 m) ∙ ap₂ (λ (x y : ℕ). x + y) (length-pack p) (length-roomBits 264 m h)
 
-take-le : (k : ℕ) (l : List Bool) → length (take k l) ≤ k
+pub take-le : (k : ℕ) (l : List Bool) → length (take k l) ≤ k
 take-le k l = rw (length-take k l) (min-le-left k (length l))
 
 pub length-blocks : (k : ℕ) (r : List Bool) → length (continuationBlocks k r) ≡ 272 * k

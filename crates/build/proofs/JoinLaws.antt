@@ -3,7 +3,6 @@ use mathlib.Core.Path.{_≡_, refl, ap, ap₂, _∙_}
 use mathlib.Core.Bool.{Bool, true, false, cond}
 use mathlib.Core.List.{List, [], _∷_, _++_, append-assoc}
 use Prim.Native.Nat.{ℕ, zero, suc, _+_, _-_, _*_, _/_, _≤_, min}
-use native.Mathlib.Nat.{min-le-left}
 use native.Mathlib.Omega.{arith}
 use lib.Dec.{ltb, leb}
 use lib.ListN.{length, take, drop, length-append, length-take, length-drop, take-append-drop}
@@ -21,7 +20,7 @@ use Rattle.build.specs.Build.{shapeFor, continuationBlock, continuationB
 use Rattle.build.specs.Build.{schS, schH, cutBlocks, schFs, blockBits, readAll, expected}
 use Rattle.blocks.specs.declared.sync.Sync.{Sync}
 use Rattle.blocks.specs.declared.header.Fields.{Fields}
-use Rattle.build.proofs.BuildLaws.{length-block, told-le, fill-fits}
+use Rattle.build.proofs.BuildLaws.{length-block, told-le, fill-fits, take-le}
 use Rattle.build.proofs.BuiltLaws.{inside-length, sync-bits, header-bits, blocks-bits}
 use Rattle.build.proofs.RangeLaws.{InRange, sync-fits, header-fits, width-is, width-narrow}
 use Rattle.build.proofs.RoundTripLaws.{Reads, header-reads, header-message, block-reads, block-message}
@@ -29,9 +28,6 @@ use Rattle.build.proofs.RoundTripLaws.{Reads, header-reads, header-mess
 last-le : (k : ℕ) → lastWhen k ≤ 1
 last-le zero = omega arith
 last-le (suc k) = omega arith
-
-take-le : (k : ℕ) (l : List Bool) → length (take k l) ≤ k
-take-le k l = rw (length-take k l) (min-le-left k (length l))
 
 module _ (k : ℕ) (r more : List Bool) (bytes : List ℕ) (e : bitsOf bytes ≡ continuationBlocks (suc k) r ++ more) where
   abbrev block : List Bool

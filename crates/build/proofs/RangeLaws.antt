@@ -11,12 +11,12 @@ use Rattle.bits.specs.Bits.{bitsN}
 use Rattle.bits.specs.Layout.{AllFit}
 use Rattle.blocks.specs.Widths.{entryOf, widthOf, runHolds, runFits}
 use Rattle.blocks.specs.Sync.{syncParts}
-use Rattle.blocks.specs.Header.{sduAt}
+use Rattle.blocks.specs.Header.{addressWidth, sduAt}
 use Rattle.blocks.specs.Slots.{fitsHeader, inHeader}
 use Rattle.build.specs.Plan.{headerBits, fragmentedFor, blocksFor, numberRules, addressRules, elementRules}
 use Rattle.build.specs.Plan.{headerRules}
 use Rattle.build.specs.Plan.{lengthRules, buildFault}
-use Rattle.build.specs.Build.{shapeFor, HeaderFits}
+use Rattle.build.specs.Build.{shapeFor, headerParts, HeaderFits}
 use Rattle.blocks.specs.declared.sync.Sync.{Sync}
 use Rattle.blocks.specs.declared.header.Fields.{Fields}
 use Rattle.blocks.proofs.FaultLaws.{chain-none, chain-split}
@@ -89,6 +89,32 @@ run-when : (s : Bool) (a b : Bool) → runHolds true a b ≡ true → (a ≡ tru
 run-when s true b e = (refl, e)
 run-when s false b e = let z : _≡_ {A = ℕ} 0 1 = cc in absurd (omega arith)
 
+-- ---- numbers in range fit their elements, of SCH/S and of SCH/H
+
+pub sync-parts-fit : (y : Sync) → y .system ≤ 15 → y .frame ≤ 18 → y .usage ≤ 3 → y .slot ≤ 3 → AllFit (syncParts y)
+sync-parts-fit y a b c d = omega arith
+
+pub parts-fit : (f count countdown : ℕ) (g : Fields) → f ≤ 1 → count < 2 ^ (4 * f) → countdown ≤ 3
+    → g .destination .kind ≤ 2 → g .destination .ssi < 2 ^ addressWidth (g .destination .kind) → g .source .kind ≤ 2
+    → g .source .ssi < 2 ^ addressWidth (g .source .kind) → g .mni < 2 ^ 24 → g .message ≤ 31
+    → g .elements < 2 ^ g .width → AllFit (headerParts 0 f count countdown g)
+parts-fit f count countdown g flag counted falls to to-ssi from from-ssi mni message elements = (
+  omega arith,
+  (
+    omega arith,
+    (
+      omega arith,
+      (
+        counted,
+        (
+          omega arith,
+          (omega arith, (to-ssi, (omega arith, (from-ssi, (mni, (omega arith, (elements, tt))))))),
+        ),
+      ),
+    ),
+  ),
+)
+
 module _ {y : Sync} {countdown : ℕ} {g : Fields} {n bytes lent : ℕ} (k : InRange y countdown g n bytes lent) where
   run-holds : (ltb (g .elements) (2 ^ g .width) ≡ true)
       × (eqb (widthOf (entryOf (g .message)) (bitsN (g .width) (g .elements))) (g .width) ≡ true)
@@ -108,11 +134,7 @@ module _ {y : Sync} {countdown : ℕ} {g : Fields} {n bytes lent : ℕ} (k : InR
 
   pub sync-fits : AllFit (syncParts y)
   sync-fits =
-      let a = k .numbers .highest in
-      let b = k .numbers .last-frame in
-      let c = k .numbers .usage in
-      let d = k .numbers .slot in
-      omega arith
+      sync-parts-fit y (k .numbers .highest) (k .numbers .last-frame) (k .numbers .usage) (k .numbers .slot)
 
   -- ---- the header, fragmented or not
 
@@ -134,31 +156,10 @@ module _ {y : Sync} {countdown : ℕ} {g : Fields} {n bytes lent : ℕ} (k : InR
       let w = header-when (fitsHeader (headerBits g) n) refl (k .header .fits) in
       record {
         flag = w .2;
-        parts = (
-          omega arith,
-          (
-            omega arith,
-            (
-              omega (arith, w .2),
-              (
-                w .1,
-                (
-                  omega (arith, k .numbers .countdown),
-                  (
-                    omega (arith, k .header .to),
-                    (
-                      k .destination .ssi,
-                      (
-                        omega (arith, k .header .from),
-                        (k .source .ssi, (k .numbers .mni, (omega (arith, k .numbers .message), (elements-fit, tt)))),
-                      ),
-                    ),
-                  ),
-                ),
-              ),
-            ),
-          ),
-        );
+        parts =
+            parts-fit (fragmentedFor g n) (blocksFor g n) countdown g (w .2) (w .1) (k .numbers .countdown)
+            (k .header .to) (k .destination .ssi) (k .header .from) (k .source .ssi) (k .numbers .mni)
+            (k .numbers .message) elements-fit;
         narrow = width-narrow;
         room = w .0;
       }

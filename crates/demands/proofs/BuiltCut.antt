@@ -15,6 +15,7 @@ use Rattle.bits.proofs.Runs.{join-assoc}
 use Rattle.blocks.specs.Sync.{syncParts}
 use Rattle.blocks.specs.Slots.{fitsHeader}
 use Rattle.build.specs.Build.{headerBlock, continuationBlock, continuationBlocks}
+use Rattle.build.proofs.BuildLaws.{take-le}
 use Rattle.history.specs.Line.{Line, start, _▸_, count, Every}
 use Rattle.history.specs.History.{join}
 use Rattle.history.proofs.OpenRun.{join-more}
@@ -33,12 +34,9 @@ count-parts : (n : ℕ) (r : List Bool) → count (full-parts n r) ≡ n
 count-parts zero r = refl
 count-parts (suc n) r = ap suc (count-parts n r)
 
-at-most : (r : List Bool) → length (take 264 r) ≤ 264
-at-most r = rw (length-take 264 r) (omega arith)
-
 fit-parts : (n : ℕ) (r : List Bool) → Every (λ b. length b ≤ 264) (full-parts n r)
 fit-parts zero r = tt
-fit-parts (suc n) r = (fit-parts n r, at-most (drop (264 * n) r))
+fit-parts (suc n) r = (fit-parts n r, take-le 264 (drop (264 * n) r))
 
 join-parts : (head r : List Bool) (n : ℕ) → join head (full-parts n r) ≡ head ++ take (264 * n) r
 join-parts head r zero = refl
@@ -85,7 +83,7 @@ frags-bits (suc n) r =
     let b = take 264 (drop (264 * n) r) in
     bitsOf-append (frags-bytes (full-parts n r)) (block-bytes 0 b)
     ∙ ap₂ (λ (x y : List Bool). x ++ y) (frags-bits n r)
-    (block-bits 0 b (omega arith) (at-most (drop (264 * n) r)))
+    (block-bits 0 b (omega arith) (take-le 264 (drop (264 * n) r)))
 
 frags-are-bytes : (bs : Line (List Bool)) → AllBytes (frags-bytes bs)
 frags-are-bytes start = tt

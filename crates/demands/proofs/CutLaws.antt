@@ -8,7 +8,7 @@ use lib.Dec.{eqb, ltb}
 use lib.ListN.{length}
 use lib.Seq.{take-at, drop-at}
 use Rattle.bits.specs.Bits.{bitsN, bytesN, bitsOf}
-use Rattle.bits.specs.Layout.{pack, AllFit}
+use Rattle.bits.specs.Layout.{pack}
 use Rattle.bits.proofs.Bytes.{length-bytesN, bitsOf-bytesN}
 use Rattle.blocks.specs.Sdu.{fillTold, bitsIn}
 use Rattle.blocks.specs.Sync.{syncParts}
@@ -17,8 +17,9 @@ use Rattle.blocks.specs.Continuation.{readContinuation}
 use Rattle.blocks.specs.declared.header.Header as read
 use Rattle.blocks.specs.declared.continuation.Continuation.{Continuation}
 use Rattle.blocks.proofs.WidthLaws.{width-listed}
-use Rattle.build.specs.Build.{shapeFor, headerParts, headerBlock, continuationBlock}
-use Rattle.build.proofs.BuildLaws.{told-le, length-block}
+use Rattle.build.specs.Build.{shapeFor, headerBlock, continuationBlock}
+use Rattle.build.proofs.BuildLaws.{told-le, fill-fits, length-block}
+use Rattle.build.proofs.RangeLaws.{sync-parts-fit, parts-fit}
 use Rattle.build.proofs.BuiltLaws.{length-sync, length-header}
 use Rattle.build.proofs.RoundTripLaws.{Reads, header-reads, header-message, block-reads, block-message}
 use Rattle.history.specs.Line.{Line, start, _▸_, _⧺_, count, each, Every}
@@ -74,51 +75,20 @@ module _ (c : Call) (r : InRange c) (x : Cut c) where
   abbrev pub sch-h : List ℕ
   sch-h = bytesN 16 block
 
-  sync-fits : AllFit (syncParts (c .sync))
-  sync-fits =
-      let a = r .system .1 in
-      let b = r .frame .1 in
-      let d = r .usage in
-      let e = r .slot in
-      omega arith
-
-  parts-fit : (fill : ℕ) → fill ≤ 1 → AllFit (headerParts fill 1 slots (c .countdown) (c .fields))
-  parts-fit fill l = (
-    omega arith,
-    (
-      omega arith,
-      (
-        omega arith,
-        (
-          omega (arith, x .few),
-          (
-            omega (arith, r .countdown),
-            (
-              omega (arith, r .destination .kind),
-              (
-                r .destination .ssi,
-                (
-                  omega (arith, r .source .kind),
-                  (r .source .ssi, (r .mni, (omega (arith, r .message), (r .elements, tt)))),
-                ),
-              ),
-            ),
-          ),
-        ),
-      ),
-    ),
-  )
-
   well : Reads (c .sync) 1 slots (c .countdown) (c .fields) (x .head)
   well =
       record {
-        sync = sync-fits;
+        sync = sync-parts-fit (c .sync) (r .system .1) (r .frame .1) (r .usage) (r .slot);
         system = r .system .0;
         first-frame = r .frame .0;
         last-frame = r .frame .1;
         parts =
             let room = 124 - sduAt (shapeFor 1 (c .fields)) in
-            parts-fit (fillTold room (x .head)) (told-le (ltb (length (x .head)) room));
+            fill-fits 1 slots (c .countdown) (fillTold room (x .head)) (c .fields)
+            (told-le (ltb (length (x .head)) room))
+            (parts-fit 1 slots (c .countdown) (c .fields) (omega arith) (omega (arith, x .few)) (r .countdown)
+            (r .destination .kind) (r .destination .ssi) (r .source .kind) (r .source .ssi) (r .mni) (r .message)
+            (r .elements));
         counted = omega arith;
         to = r .destination .kind;
         from = r .source .kind;

@@ -99,6 +99,18 @@ record ReadFrom (x : Heard) : Type 0 where
   flag : is-fragmented x ≡ eqb (fragmentedIn (bitsOf block)) 1
   slots : more-in x ≡ slots-in (fragmentedIn (bitsOf block)) (bitsOf block) - 1
 
+-- By what it reads as.
+from-read : {b : List ℕ} {r : read.Header} (x : Heard) → WellRead b r → header-in x .raw ≡ rawOf b
+    → eqb (r .fragmented) 1 ≡ is-fragmented x → more-in x ≡ r .count - 1 → ReadFrom x
+from-read {b} x y e g n =
+    record {
+      block = b;
+      long = y .long;
+      raw = e;
+      flag = sym g ∙ ap (λ (f : ℕ). eqb f 1) (y .flag);
+      slots = n ∙ ap (λ (m : ℕ). m - 1) (y .count);
+    }
+
 -- By the fault that it reads with, and the flag.
 from-header : (b : List ℕ) (h : Header) (r : read.Header) (fault : ℕ) (flag : Bool) → h .raw ≡ rawOf b
     → eqb (r .fragmented) 1 ≡ flag → (fault ≡ 0 → WellRead b r)
@@ -106,25 +118,11 @@ from-header : (b : List ℕ) (h : Header) (r : read.Header) (fault : ℕ) (flag 
     let x = unfaulted fault (cond flag (fragmented h (r .count - 1) f) (unfragmented h f)) in
     header-in x .for-us ≡ true → ReadFrom x
 from-header b h r (suc n) flag e g w m = absurd-bool m
-from-header b h r zero true e g w m =
-    let y = w refl in
-    record {
-      block = b;
-      long = y .long;
-      raw = e;
-      flag = sym g ∙ ap (λ (n : ℕ). eqb n 1) (y .flag);
-      slots = ap (λ (n : ℕ). n - 1) (y .count);
-    }
+from-header b h r zero true e g w m = from-read (fragmented h (r .count - 1) (r .countdown)) (w refl) e g refl
 from-header b h r zero false e g w m =
     let y = w refl in
     let z = y .alone (omega (arith, y .low, eqb-false (r .fragmented) 1 g)) in
-    record {
-      block = b;
-      long = y .long;
-      raw = e;
-      flag = sym g ∙ ap (λ (n : ℕ). eqb n 1) (y .flag);
-      slots = omega (arith, z, y .count);
-    }
+    from-read (unfragmented h (r .countdown)) y e g (omega arith)
 
 -- By its kind: only one of kind 2 brings a header.
 from-block : (n : ℕ) (last : Bool) (m : List Bool)
