@@ -1,4 +1,6 @@
 // Bit strings over lent bytes: eight bits to a byte, the first bit highest.
+#![tactic(auto)]
+
 ghost use Rattle.std.specs.Prelude.{◌≡◌, false, ◌+◌, ◌-◌, ◌*◌, ◌/◌, ◌%◌, ◌^◌, ◌≤◌, ◌<◌, min, leb, length, take, drop, replicate};
 ghost use Rattle.std.proofs.Math.Seq.{slice};
 ghost use Rattle.bits.specs.Bits.{num, bits_n, bits_of, over, Inside, Got};
