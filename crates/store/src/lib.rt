@@ -1,5 +1,7 @@
 // The store of an assembly, 512 bytes: what goes into it and out of it; and SCH/H but for its countdown, as two
 // numbers.
+#![tactic(auto)]
+
 ghost use Rattle.std.specs.Prelude.{◌≡◌, [], ◌+◌, ◌≤◌, length, take, drop};
 ghost use Rattle.bits.specs.Bits.{bits_of, Inside};
 ghost use Rattle.store.specs.Store.{store_of, joined_to, first_over, without, same_raw};
