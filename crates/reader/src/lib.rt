@@ -1,4 +1,6 @@
 // A reader over a lent block that remembers its bit position.
+#![tactic(auto)]
+
 ghost use Rattle.std.specs.Prelude.{◌≡◌, ◌*◌, ◌^◌, min, length};
 ghost use Rattle.reader.specs.Reading.{left_of, refused_at, taken_at, skipped_at, step_by, answer_of, moved_to};
 
