@@ -1,4 +1,6 @@
 // The numbers of a record, the lowest byte first.
+#![tactic(auto)]
+
 ghost use Rattle.std.specs.Prelude.{◌≡◌, ◌+◌, ◌*◌, ◌≤◌, length};
 ghost use Rattle.records.specs.Numbers.{two_at, four_at, eight_at};
 

@@ -1,10 +1,10 @@
 -- The laws of numbers in decimal and bytes in hexadecimal, one after another. Assumes nothing.
-use mathlib.Core.Path.{◌≡◌, refl, sym, ap, ◌∙◌}
+use mathlib.Core.Path.{◌≡◌, refl}
 use mathlib.Core.List.{List, [], ◌∷◌, ◌++◌, append_assoc, append-nil}
-use Prim.Native.Nat.{ℕ, suc, ◌+◌, ◌*◌, ◌/◌, ◌%◌, ◌≤◌, ◌<◌}
+use Prim.Native.Nat.{ℕ, ◌+◌, ◌/◌, ◌%◌, ◌<◌}
 use native.Mathlib.Numerals.{add-one}
 use native.Mathlib.Omega.{arith}
-use lib.ListN.{length, take, get_or, set, length-append, length-set}
+use lib.ListN.{length, take, get_or, set}
 use lib.Seq.{take-suc, take-length}
 use Rattle.text.specs.Text.{Wrote, decimal_of, spaced, hex_digit, hex_of}
 use Rattle.text.proofs.Writing.{wrote_none, wrote_more, wrote_both}

@@ -1,5 +1,7 @@
 // Text in ASCII, written at a place of lent bytes: each function answers the place after what it wrote, and leaves
 // every other byte.
+#![tactic(auto)]
+
 ghost use Rattle.std.specs.Prelude.{◌+◌, ◌*◌, ◌≤◌, ◌<◌, ◌≡◌, length};
 ghost use Rattle.text.specs.Text.{Wrote, decimal_of, spaced, hex_of};
 ghost use Rattle.text.specs.Text.{hex_digit as Text·hexDigit};
