@@ -1,5 +1,7 @@
 // SDS-TL messages in direct mode: the four messages of EN 300 392-2, 29.4.2, inside the DM-SDU elements of
 // EN 300 396-3, 9.7.
+#![tactic(auto)]
+
 mod building;
 mod elements;
 mod reading;
