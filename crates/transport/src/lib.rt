@@ -18,7 +18,7 @@ use blocks::header::Fields;
 // is the delivery status, of a short report its type. `address` is the forward address as one number: SSI, or SSI times
 // 2^24 and the extension.
 #[repr(C)]
-#[derive(Drop)]
+#[derive(Clone, Copy)]
 pub struct Message {
     pub kind: u8,
     pub addressed: u8,
@@ -39,7 +39,7 @@ pub struct Message {
 // A DM-SDU that was read; where it was refused, all but the fault is 0. `first` is the first bit of the user data and
 // `bits` their number.
 #[repr(C)]
-#[derive(Drop)]
+#[derive(Clone, Copy)]
 pub struct Transport {
     pub fault: u8,
     pub message: Message,
@@ -49,7 +49,7 @@ pub struct Transport {
 
 // What a build answers: its fault, or the DM-SDU's number of bits.
 #[repr(C)]
-#[derive(Drop)]
+#[derive(Clone, Copy)]
 pub struct Sdu {
     pub fault: u8,
     pub bits: usize,
