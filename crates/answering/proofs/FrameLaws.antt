@@ -8,7 +8,7 @@ use borrow.Author.Tests.{ne_eqb, eqb-false, le-leb, leb-true, leb-false}
 use Rattle.blocks.specs.Faults.{first_of}
 use Rattle.blocks.specs.Slots.{frames_to}
 use Rattle.blocks.proofs.FaultLaws.{by_rules, le_holds}
-use Rattle.blocks.proofs.SlotLaws.{frames_closed}
+use Rattle.blocks.proofs.SlotLaws.{frames_counted}
 use Rattle.answering.specs.Calendar.{yes, was_fragmented, least_of, limit_of, last_frame, first_frame, response_rules}
 use Rattle.answering.specs.Calendar.{passed_over, slots, Fits, with_fault, with_slots, calendar_of}
 use Rattle.answering.specs.declared.Response.{Response}
@@ -92,7 +92,7 @@ refused r (suc n) e h = rw (sym e) refl
 
 -- of a message with at most fifteen blocks
 pub frames_few : (x f i : ℕ) → f ≤ 3 → i ≤ 14 → frames_to x f i ≤ 19
-frames_few x f i l m = let e = frames_closed x f i in omega arith
+frames_few x f i l m = let e = frames_counted x f i in omega arith
 
 -- the answered message is over within 19 frames
 pub last_soon : (r : Response) → Fits r → last_frame r ≤ 19

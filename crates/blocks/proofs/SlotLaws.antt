@@ -1,8 +1,8 @@
 -- The laws of due slots. Assumes nothing.
-use mathlib.Core.Path.{◌≡◌, refl, sym, ap, ◌∙◌}
+use mathlib.Core.Path.{◌≡◌, refl, ap, ◌∙◌}
 use mathlib.Core.Bool.{Bool, true, false, cond}
 use mathlib.Core.Logic.{◌⊎◌, inl, inr}
-use Prim.Native.Nat.{ℕ, zero, suc, ◌+◌, ◌-◌, ◌/◌, ◌%◌, ◌≤◌, ◌<◌}
+use Prim.Native.Nat.{ℕ, zero, suc, ◌+◌, ◌/◌, ◌%◌, ◌≤◌, ◌<◌}
 use native.Mathlib.Omega.{arith}
 use lib.Dec.{eqb, leb}
 use borrow.Author.Tests.{eqb-true, eqb-false, eq-eqb, ne_eqb, leb-true, leb-false}
@@ -67,23 +67,23 @@ no_later x f i j h = go (eqb i j) refl
 abbrev closed : ℕ → ℕ → ℕ → ℕ
 closed x f i = f + suc i + since1 x f i / 17
 
-pub frames_closed : (x f i : ℕ) → frames_to x f i ≡ closed x f i
-frames_closed x f zero = go (frames_to x f 0) (first_soon x f)
+pub frames_counted : (x f i : ℕ) → frames_to x f i ≡ closed x f i
+frames_counted x f zero = go (frames_to x f 0) (first_soon x f)
   where
     go : (p : ℕ) → Passes x (suc f) p → p ≡ closed x f 0
     go p (inl (e, h)) = omega arith
     go p (inr (e, h)) = omega arith
-frames_closed x f (suc i) =
-    go (frames_to x f i) (frames_to x f (suc i)) (frames_closed x f i) (passes x (suc (frames_to x f i)))
+frames_counted x f (suc i) =
+    go (frames_to x f i) (frames_to x f (suc i)) (frames_counted x f i) (passes x (suc (frames_to x f i)))
   where
     go : (p q : ℕ) → p ≡ closed x f i → Passes x (suc p) q → q ≡ closed x f (suc i)
     go p q e (inl (d, h)) = omega arith
     go p q e (inr (d, h)) = omega arith
 
 -- in fewer than 18 blocks that is one, or none
-pub frames_over : (x f i : ℕ) → i ≤ 16
+pub frames_closed : (x f i : ℕ) → i ≤ 16
     → frames_to x f i ≡ f + suc i + cond (leb 18 (next_frame (x + f) + i)) 1 0
-frames_over x f i l = go (leb 18 (next_frame (x + f) + i)) refl (frames_closed x f i)
+frames_closed x f i l = go (leb 18 (next_frame (x + f) + i)) refl (frames_counted x f i)
   where
     go : (t : Bool) → leb 18 (next_frame (x + f) + i) ≡ t → frames_to x f i ≡ closed x f i
         → frames_to x f i ≡ f + suc i + cond t 1 0
@@ -123,7 +123,22 @@ due_range x f zero = (omega arith, (passed x f).never_18)
 due_range x f (suc i) = (omega arith, (passed x (frames_to x f i)).never_18)
 
 pub due_closed : (x f i : ℕ) → due_frame x f i ≡ since1 x f i % 17 + 1
-due_closed x f i = let e = frames_closed x f i in omega arith
+due_closed x f i = let e = frames_counted x f i in omega arith
+
+-- successive blocks go in successive frames of 1 to 17
+pub due_next : (x f i : ℕ) → due_frame x f (suc i) ≡ due_frame x f i % 17 + 1
+due_next x f i = let e = due_closed x f i in let n = due_closed x f (suc i) in omega arith
+
+-- the first block's, and so every block's
+abbrev pub first_frame : ℕ → ℕ → ℕ
+first_frame x f = cond (eqb (next_frame (x + f)) 18) 1 (next_frame (x + f))
+
+first_by : (x f p : ℕ) → Passes x (suc f) p → frame_number x p ≡ first_frame x f
+first_by x f p (inl (e, h)) = rw (e, ne_eqb (next_frame (x + f)) 18 (λ z. omega arith)) (omega arith)
+first_by x f p (inr (e, h)) = rw (e, eq-eqb (next_frame (x + f)) 18 (omega arith)) (omega arith)
+
+pub due_first : (x f : ℕ) → due_frame x f 0 ≡ first_frame x f
+due_first x f = first_by x f (frames_to x f 0) (first_soon x f)
 
 -- headers with the same frame after their last repeats have the same due frames
 pub due_alike : (x f y c i : ℕ) → next_frame (x + f) ≡ next_frame (y + c) → due_frame x f i ≡ due_frame y c i

@@ -9,7 +9,7 @@ use bits::Found;
 // A continuation block that was read; where it was refused, all but the fault is 0. `last` is 1 for DMAC-END, `first`
 // the DM-SDU's first bit and `bits` the number of its message bits.
 #[repr(C)]
-#[derive(Drop)]
+#[derive(Clone, Copy)]
 pub struct Continuation {
     pub fault: u8,
     pub last: u8,

@@ -14,7 +14,7 @@ use bits::Found;
 
 // An address element: its type, and the SSI, 0 where it is absent.
 #[repr(C)]
-#[derive(Drop)]
+#[derive(Clone, Copy)]
 pub struct Address {
     pub kind: u8,
     pub ssi: u32,
@@ -37,7 +37,7 @@ impl Address {
 // What a message's header says of it: addresses, MNI, message type, and the dependent elements as one run of bits with
 // its width.
 #[repr(C)]
-#[derive(Drop)]
+#[derive(Clone, Copy)]
 pub struct Fields {
     pub destination: Address,
     pub source: Address,
@@ -50,7 +50,7 @@ pub struct Fields {
 // A header that was read; where it was refused, all but the fault is 0. `fragmented` is the flag, `count` the number of
 // SCH/F slots, `first` the DM-SDU's first bit in SCH/H and `bits` the number of its message bits.
 #[repr(C)]
-#[derive(Drop)]
+#[derive(Clone, Copy)]
 pub struct Header {
     pub fault: u8,
     pub sync: Sync,
@@ -108,7 +108,7 @@ pub fn address_width(kind: u8) -> usize
 }
 
 // An address as it stands, and the bit after it.
-#[derive(Drop)]
+#[derive(Clone, Copy)]
 struct Addressed {
     address: Address,
     next: usize,
@@ -135,7 +135,7 @@ fn address_at(h: &[u8], at: usize) -> Addressed
 
 // The addressed tail of a PDU as it stands, before it is judged; `run` is the first bit of its message dependent
 // elements and `first` the bit after them.
-#[derive(Drop)]
+#[derive(Clone, Copy)]
 pub(crate) struct Tail {
     destination: Address,
     source: Address,
@@ -225,7 +225,7 @@ pub fn header_bits(fragmented: u8, to: u8, from: u8, width: u8) -> usize
 }
 
 // SCH/H as it stands, before it is judged.
-#[derive(Drop)]
+#[derive(Clone, Copy)]
 struct Body {
     fill: u8,
     fragmented: u8,

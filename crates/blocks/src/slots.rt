@@ -6,7 +6,7 @@ use crate::fault::Fault;
 
 // A frame, or the number of the refusal.
 #[repr(C)]
-#[derive(Drop)]
+#[derive(Clone, Copy)]
 pub struct Due {
     pub fault: u8,
     pub frame: u8,

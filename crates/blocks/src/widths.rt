@@ -5,7 +5,7 @@ ghost use Rattle.blocks.specs.Widths.{fixed, flagged, flagged_twice, entry_of, a
 
 // The width of a message's elements with no flag set; the place of a flag in them and the bits that an element adds
 // which hangs on it, twice. The second flag's place is counted without what the first adds.
-#[derive(Drop)]
+#[derive(Clone, Copy)]
 pub struct Entry {
     pub width: u8,
     pub flag: u8,
@@ -45,6 +45,7 @@ fn flagged_twice(width: u8, flag: u8, adds: u8, flag2: u8, adds2: u8) -> Entry
 }
 
 // The entry of a message type (9.3.19), as 9.4 and 9.5 have its elements.
+#[tactic(auto, unfolding(crate::specs::Widths::entry_of))]
 pub fn entry_of(message: u8) -> Entry
     ensures { result ≡ entry_of message }
 {

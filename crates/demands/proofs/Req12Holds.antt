@@ -9,7 +9,7 @@ use lib.ListN.{length, take, drop}
 use Rattle.bits.specs.Bits.{bit, num, test_bit, bits_n, bits_of}
 use Rattle.bits.proofs.Runs.{join_assoc, join_none_left, join_none_right}
 use Rattle.blocks.specs.Widths.{entry_of, width_of}
-use Rattle.blocks.proofs.SlotLaws.{frames_over}
+use Rattle.blocks.proofs.SlotLaws.{frames_closed}
 use Rattle.history.specs.Line.{Line, start, ◌▸◌, ◌⧺◌, count, Every, Any}
 use Rattle.history.specs.Slots.{Heard, fragmented, Report, header_in, more_in}
 use Rattle.history.specs.History.{History, Run, IsOpen, Closes, Opens}
@@ -255,7 +255,7 @@ reached s w before =
 pub req12 : Req12
 req12 =
     record {
-      in_frames = λ x f i l. omega (arith, frames_over x f i (omega arith));
+      in_frames = λ x f i l. omega (arith, frames_closed x f i (omega arith));
       in_slots = λ p a b f. lasts_holds.in_slots p f (a, b);
       in_reports = λ p a b f l. lasts_holds.in_reports p f (a, b) l;
       most = most;

@@ -1,6 +1,6 @@
 -- The table of the code has remainders: by a test that is computed. Assumes nothing.
 use mathlib.Core.Path.{◌≡◌, ap, ◌∙◌}
-use mathlib.Core.Bool.{Bool, true, false, xor, ◌&&◌}
+use mathlib.Core.Bool.{Bool, true, xor, ◌&&◌}
 use mathlib.Core.List.{List, [], ◌∷◌}
 use Prim.Native.Nat.{ℕ, zero, suc, ◌+◌, ◌<◌}
 use native.Mathlib.Nat.{zero-add}

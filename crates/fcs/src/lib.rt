@@ -1,5 +1,7 @@
 // The frame check sequence (EN 300 396-3, Annex B): its long division over a register of 32 bits, the first bit
 // highest.
+#![tactic(auto)]
+
 ghost use Rattle.std.specs.Prelude.{◌≡◌, ◌≤◌, length, take};
 ghost use Rattle.bits.specs.Bits.{num, bits_n, bits_of, Inside};
 ghost use Rattle.fcs.specs.Annex.{fcs_of};

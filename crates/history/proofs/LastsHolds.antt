@@ -6,9 +6,9 @@ use mathlib.Core.Logic.{◌↔◌, inl, inr}
 use mathlib.Core.Bool.{Bool, true, false, cond}
 use mathlib.Core.List.{List}
 use lib.Dec.{eqb, leb}
-use borrow.Author.Tests.{eqb-true, eqb-false, leb-true, leb-false}
+use borrow.Author.Tests.{leb-true, leb-false}
 use Rattle.blocks.specs.Slots.{next_frame, frames_to, due_frame}
-use Rattle.blocks.proofs.SlotLaws.{Passes, first_soon, after_headers, in_order, next_soon, due_range, frames_over}
+use Rattle.blocks.proofs.SlotLaws.{Passes, first_soon, after_headers, in_order, next_soon, due_range, frames_closed}
 use Rattle.blocks.proofs.SlotLaws.{no_later, frames_from}
 use Rattle.blocks.specs.declared.header.Fields.{Fields}
 use Rattle.history.specs.Line.{Line, start, ◌▸◌, ◌⧺◌, count, Every}
@@ -191,7 +191,7 @@ module _ (p : Place) (f : ℕ) where
 -- At most 38, with a countdown of at most 3 and at most fifteen blocks.
 pub most : (p : Place) (f i : ℕ) → f ≤ 3 → i ≤ 14 → slots_to p f i ≤ 38
 most p f i l h =
-    go (over_18 p.frame f i) (frames_over p.frame f i (omega arith))
+    go (over_18 p.frame f i) (frames_closed p.frame f i (omega arith))
     (one (leb 18 (next_frame (p.frame + f) + i)))
   where
     one : (b : Bool) → cond {A = ℕ} b 1 0 ≤ 1

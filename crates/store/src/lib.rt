@@ -1,12 +1,14 @@
 // The store of an assembly, 512 bytes: what goes into it and out of it; and SCH/H but for its countdown, as two
 // numbers.
+#![tactic(auto)]
+
 ghost use Rattle.std.specs.Prelude.{◌≡◌, [], ◌+◌, ◌≤◌, length, take, drop};
 ghost use Rattle.bits.specs.Bits.{bits_of, Inside};
 ghost use Rattle.store.specs.Store.{store_of, joined_to, first_over, without, same_raw};
 
 // A block of 16 bytes as two numbers: its first 64 bits and the others.
 #[repr(C)]
-#[derive(Drop)]
+#[derive(Clone, Copy)]
 pub struct Raw {
     pub high: u64,
     pub low: u64,

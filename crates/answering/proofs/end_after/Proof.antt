@@ -1,5 +1,5 @@
 use native.Mathlib.Omega.{arith}
-use Rattle.blocks.proofs.SlotLaws.{frames_closed}
+use Rattle.blocks.proofs.SlotLaws.{frames_counted}
 use borrow.Author.Rules.{rules}
 use Rattle.answering.proofs.end_after.Statement.{statement}
 use Rattle.answering.proofs.end_after.Tie as tie
@@ -10,7 +10,7 @@ frames-to-requires c κs = search rules
 cast-t4 : tie.Need-overflow-cast-t4
 cast-t4 c =
     let a = c.before.args in
-    omega (arith, c.frames-to.ensures, c.before.requires, frames_closed a.x a.k 0)
+    omega (arith, c.frames-to.ensures, c.before.requires, frames_counted a.x a.k 0)
 
 frame-number-requires : tie.Need-frame-number-requires
 frame-number-requires c κs = search rules
