@@ -251,7 +251,7 @@ pub fn fill(out: &mut [u8], from: usize, to: usize)
 }
 
 // A place, or none.
-#[derive(Drop)]
+#[derive(Clone, Copy)]
 pub enum Found {
     At(usize),
     Nothing,

@@ -1,5 +1,5 @@
 // Why a call is refused, or a block counts as nothing heard; 0 is no fault.
-#[derive(Drop)]
+#[derive(Clone, Copy)]
 pub struct Fault {}
 
 impl Fault {

@@ -4,7 +4,7 @@
 pub const PAD: usize = 4;
 
 // SCH/S: its lent bytes, these in bits, and how many of the bits are the block's; the others are pad.
-#[derive(Drop)]
+#[derive(Clone, Copy)]
 pub struct SchS {}
 
 impl SchS {
@@ -31,7 +31,7 @@ impl SchS {
 }
 
 // The same of SCH/H.
-#[derive(Drop)]
+#[derive(Clone, Copy)]
 pub struct SchH {}
 
 impl SchH {
@@ -50,7 +50,7 @@ impl SchH {
 }
 
 // The same of SCH/F, and the bits of the DM-SDU's room.
-#[derive(Drop)]
+#[derive(Clone, Copy)]
 pub struct SchF {}
 
 impl SchF {
@@ -73,7 +73,7 @@ impl SchF {
 }
 
 // The widths of the elements that are wider than one bit.
-#[derive(Drop)]
+#[derive(Clone, Copy)]
 pub struct Width {}
 
 impl Width {

@@ -12,7 +12,7 @@ use reports::read::Brought;
 // The answer to a report: its outcome; 1 where an open assembly ended here without being handed over; the fault; the
 // bits of the message that is handed over, and its header's fields; what is told of the assembly that ended here.
 #[repr(C)]
-#[derive(Drop)]
+#[derive(Clone, Copy)]
 pub struct Answer {
     pub outcome: u8,
     pub dropped: u8,

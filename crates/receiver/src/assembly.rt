@@ -11,7 +11,7 @@ use reports::run::{clears, joins, no_run};
 
 // What is kept of the open run, the number of bits joined, and the store that holds them.
 #[repr(C)]
-#[derive(Drop)]
+#[derive(Clone, Copy)]
 pub struct Assembly {
     pub run: Open,
     pub bits: usize,

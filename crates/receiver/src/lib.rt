@@ -23,7 +23,7 @@ use reports::verdict::judge;
 
 // The receiver. What is not there is zero.
 #[repr(C)]
-#[derive(Drop)]
+#[derive(Clone, Copy)]
 pub struct Receiver {
     pub settings: Settings,
     pub place: Place,
@@ -32,7 +32,7 @@ pub struct Receiver {
 }
 
 // The receiver after a report, and the answer.
-#[derive(Drop)]
+#[derive(Clone, Copy)]
 pub struct Reply {
     pub receiver: Receiver,
     pub answer: Answer,
@@ -40,7 +40,7 @@ pub struct Reply {
 
 // A fresh receiver, or the fault of its settings.
 #[repr(C)]
-#[derive(Drop)]
+#[derive(Clone, Copy)]
 pub struct Fresh {
     pub fault: u8,
     pub receiver: Receiver,

@@ -10,7 +10,7 @@ use blocks::sizes::{SchF, SchH, SchS};
 const BUFFER: usize = 512;
 
 // What a report brings.
-#[derive(Drop)]
+#[derive(Clone, Copy)]
 pub struct Kind {}
 
 impl Kind {
