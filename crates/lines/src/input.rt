@@ -7,7 +7,7 @@ use records::two_at;
 use std::io::Read;
 
 // What was read: a record's kind and the length of its body, which stands at the buffer's start.
-#[derive(Drop)]
+#[derive(Clone, Copy)]
 pub enum Taken {
     Record(u16, usize),
     Cut,
@@ -41,7 +41,7 @@ fn fill<R: Read>(input: &mut R, run: &mut [u8], n: usize) -> usize
     read_full(input, &mut run[..n])
 }
 
-// Takes the next record of `input`. `Cut` is one that is cut off, has a length below 2, or a body that is longer than the
+// Takes the next record. `Cut` is one that is cut off, has a length below 2, or a body that is longer than the
 // buffer. A buffer below four bytes takes none.
 pub fn take<R: Read>(input: &mut R, body: &mut [u8]) -> Taken
     ensures { Held result body.new }

@@ -7,7 +7,7 @@ ghost use Rattle.lines.specs.Lines.{hex_text, rest_of, shown_of, unknown_line};
 use std::io::Write;
 
 // How many bytes of a buffer are a line; or there is none, since the record is too short for its kind.
-#[derive(Drop)]
+#[derive(Clone, Copy)]
 pub enum Line {
     Bytes(usize),
     Short,
