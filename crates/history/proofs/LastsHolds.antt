@@ -6,7 +6,7 @@ use mathlib.Core.Logic.{◌↔◌, inl, inr}
 use mathlib.Core.Bool.{Bool, true, false, cond}
 use mathlib.Core.List.{List}
 use lib.Dec.{eqb, leb}
-use borrow.Author.Tests.{eqb-true, eqb-false, leb-true, leb-false}
+use borrow.Author.Tests.{leb-true, leb-false}
 use Rattle.blocks.specs.Slots.{next_frame, frames_to, due_frame}
 use Rattle.blocks.proofs.SlotLaws.{Passes, first_soon, after_headers, in_order, next_soon, due_range, frames_closed}
 use Rattle.blocks.proofs.SlotLaws.{no_later, frames_from}

@@ -1,18 +1,20 @@
 // The history of slot reports: what a receiver is to answer, and the step that answers it. It has records and no
 // function: specs/ has the definitions, proofs/ the theorems.
+#![tactic(auto)]
+
 use blocks::header::Fields;
 use store::Raw;
 
 // A frame and a slot; slot 0 where no report has been heard.
 #[repr(C)]
-#[derive(Drop)]
+#[derive(Clone, Copy)]
 pub struct Place {
     pub frame: u8,
     pub slot: u8,
 }
 
 // What a report brings, once its blocks are read: nothing, a header, or a block.
-#[derive(Drop)]
+#[derive(Clone, Copy)]
 pub enum What {
     Nothing,
     Fragmented,
@@ -23,7 +25,7 @@ pub enum What {
 
 // An earlier header for this unit that one in the slot next in turn can be a copy of: its SCH/H but for the countdown,
 // and the countdown that the copy has there.
-#[derive(Drop)]
+#[derive(Clone, Copy)]
 pub struct Near {
     pub raw: Raw,
     pub countdown: u64,
@@ -32,7 +34,7 @@ pub struct Near {
 // Those that there are, the oldest first, and how many: each takes three numbers, the two of its SCH/H and its
 // countdown. What is not there is zero.
 #[repr(C)]
-#[derive(Drop)]
+#[derive(Clone, Copy)]
 pub struct Nears {
     pub count: usize,
     pub places: [u64; 21],
@@ -42,7 +44,7 @@ pub struct Nears {
 // countdown; one more than the countdown that a repeat of it has now, 0 when there can be none any more; one less than
 // its slot count; its frame and countdown, from which the due slots are counted; the number of blocks kept.
 #[repr(C)]
-#[derive(Drop)]
+#[derive(Clone, Copy)]
 pub struct Open {
     pub fields: Fields,
     pub raw: Raw,
@@ -55,7 +57,7 @@ pub struct Open {
 }
 
 // What becomes of the open assembly: it stays, it ends, the header opens one, it takes the block.
-#[derive(Drop)]
+#[derive(Clone, Copy)]
 pub enum Act {
     Stays,
     Ends,
@@ -66,7 +68,7 @@ pub enum Act {
 // A message that is lost on the way, of the two types that are told of: its source address (the SSI, 0 where it is
 // absent), its message type, and the bits joined so far. Three zeros where there is none.
 #[repr(C)]
-#[derive(Drop)]
+#[derive(Clone, Copy)]
 pub struct Lost {
     pub source: u32,
     pub message: u8,
@@ -82,7 +84,7 @@ impl Lost {
 
 // What a report comes to: its outcome; whether an open assembly ends here without being handed over; what becomes of
 // the assembly; whether the header is one more that copies can come of.
-#[derive(Drop)]
+#[derive(Clone, Copy)]
 pub struct Verdict {
     pub outcome: u8,
     pub dropped: bool,
@@ -91,7 +93,7 @@ pub struct Verdict {
 }
 
 // The outcomes of a report.
-#[derive(Drop)]
+#[derive(Clone, Copy)]
 pub struct Outcome {}
 
 impl Outcome {

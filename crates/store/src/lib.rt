@@ -8,7 +8,7 @@ ghost use Rattle.store.specs.Store.{store_of, joined_to, first_over, without, sa
 
 // A block of 16 bytes as two numbers: its first 64 bits and the others.
 #[repr(C)]
-#[derive(Drop)]
+#[derive(Clone, Copy)]
 pub struct Raw {
     pub high: u64,
     pub low: u64,
