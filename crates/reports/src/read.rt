@@ -14,7 +14,7 @@ use store::Raw;
 // A report once read: what it brings, and the fault of its blocks; of a header whether it is for this unit, its SCH/H
 // but for the countdown, its fields, one less than its slot count, its countdown; zero where there is none. Its
 // message bits are so many of the lent bytes' from bit `from` on.
-#[derive(Drop)]
+#[derive(Clone, Copy)]
 pub struct Brought {
     pub what: What,
     pub fault: u8,

@@ -7,7 +7,7 @@ use blocks::header::{Address, Fields};
 
 // One individual address, one group address and one MNI, each below 2^24.
 #[repr(C)]
-#[derive(Drop)]
+#[derive(Clone, Copy)]
 pub struct Settings {
     pub individual: u32,
     pub group: u32,
