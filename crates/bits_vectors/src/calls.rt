@@ -7,7 +7,7 @@ use bits::Found;
 
 // What a call answers: a number; the bytes that it changed; `none`; that it does not take these numbers; or there is
 // no such call.
-#[derive(Drop)]
+#[derive(Clone, Copy)]
 pub enum Said {
     Number(u64),
     Bytes,

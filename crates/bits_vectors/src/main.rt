@@ -14,6 +14,8 @@
 //     10 a DMAC-END that carries the y bits of t from bit x on, and fill    its 34 bytes
 // `range` stands for what `bits` does not take, `call` for a call that there is not, and `cut` for a record that the
 // input cuts off or that is shorter than its runs; nothing is read after that.
+#![tactic(auto)]
+
 mod calls;
 mod parts;
 
@@ -23,6 +25,7 @@ use crate::calls::Said;
 use crate::parts::index;
 use lines::input::Taken;
 use lines::line;
+use std::io::{Read, Write};
 
 // The number of two bytes of a body.
 fn number(body: &[u8], at: usize) -> usize
@@ -48,86 +51,88 @@ fn answer(call: u16, body: &[u8], s: &mut [u8], t: &[u8]) -> Said
     }
 }
 
-fn number_line(n: u64) -> bool {
+fn number_line<W: Write>(to: &mut W, n: u64) -> bool {
     let mut out = [0u8; 32];
     let end = line::number(&mut out, n);
-    line::say(&out, end)
+    line::say(to, &out, end)
 }
 
-fn bytes_line(s: &[u8]) -> bool
+fn bytes_line<W: Write>(to: &mut W, s: &[u8]) -> bool
     requires { length s.now ≤ 255 }
 {
     let mut out = [0u8; 512];
     let end = line::bytes(&mut out, s);
-    line::say(&out, end)
+    line::say(to, &out, end)
 }
 
 // Writes the line of an answer, whose bytes are those of `s`; false where nobody takes it.
-fn told(said: Said, s: &[u8]) -> bool
+fn told<W: Write>(to: &mut W, said: Said, s: &[u8]) -> bool
     requires { length s.now ≤ 255 }
 {
     match said {
-        Said::Number(n) => number_line(n),
-        Said::Bytes => bytes_line(s),
-        Said::Nothing => line::say(b"none\n", 5),
-        Said::Range => line::say(b"range\n", 6),
-        Said::Unknown => line::say(b"call\n", 5),
+        Said::Number(n) => number_line(to, n),
+        Said::Bytes => bytes_line(to, s),
+        Said::Nothing => line::say(to, b"none\n", 5),
+        Said::Range => line::say(to, b"range\n", 6),
+        Said::Unknown => line::say(to, b"call\n", 5),
     }
 }
 
 // A DMAC-END in a block of its own.
-fn end(body: &[u8], t: &[u8]) -> bool
+fn end<W: Write>(to: &mut W, body: &[u8], t: &[u8]) -> bool
     requires { 15 ≤ length body.now }
 {
     let mut block = [0u8; 34];
     let said = calls::end(&mut block, t, number(body, 0), number(body, 2));
-    told(said, &block)
+    told(to, said, &block)
 }
 
 // Any other call, on a copy of the first run in `s`.
-fn call(kind: u16, body: &[u8], s: &mut [u8], t: &[u8]) -> bool
+fn call<W: Write>(to: &mut W, kind: u16, body: &[u8], s: &mut [u8], t: &[u8]) -> bool
     requires { (15 + length s.old ≤ length body.now) × (length s.old ≤ 255) }
 {
     let end = 15 + s.len();
     text::copy(s, 0, &body[15..end]);
     let said = answer(kind, body, s, t);
-    told(said, s)
+    told(to, said, s)
 }
 
 // Answers a record; false where it is cut off, or nobody takes the line. The first run is copied to `room`.
-fn answered(kind: u16, body: &[u8], room: &mut [u8]) -> bool
+fn answered<W: Write>(to: &mut W, kind: u16, body: &[u8], room: &mut [u8]) -> bool
     requires { 255 ≤ length room.old }
 {
     if body.len() < 15 {
-        return line::cut();
+        return line::cut(to);
     }
     let n = index(body[14]);
     if body.len() < 15 + n {
-        return line::cut();
+        return line::cut(to);
     }
     let t = &body[15 + n..];
     if kind == 10 {
-        return end(body, t);
+        return end(to, body, t);
     }
-    call(kind, body, &mut room[0..n], t)
+    call(to, kind, body, &mut room[0..n], t)
 }
 
 // Reads one record and answers it; false where there is none, or it is cut off.
-fn next() -> bool {
-    let mut body = io::buffer();
+fn next<R: Read, W: Write>(input: &mut R, to: &mut W) -> bool {
+    let mut body = [0u8; 4096];
     let mut room = [0u8; 255];
-    match lines::input::take(&mut body) {
-        Taken::Record(kind, n) => answered(kind, &body[..n], &mut room),
-        Taken::Cut => line::cut(),
+    match lines::input::take(input, &mut body) {
+        Taken::Record(kind, n) => answered(to, kind, &body[..n], &mut room),
+        Taken::Cut => line::cut(to),
         Taken::End => false,
     }
 }
 
 // A proved loop has to end, and nothing says that the input does: the turns are counted down from more than a run
 // takes.
-fn main() {
+fn main(rt: HostRuntime) {
+    let mut input = rt.stdin();
+    let mut to = rt.stdout();
     let mut turns = u64::MAX;
-    while 0 < turns && next() {
+    while 0 < turns && next(&mut input, &mut to) {
         turns -= 1;
     }
 }

@@ -33,7 +33,7 @@ pub(crate) fn values(b: &[u8], at: usize, out: &mut [u64]) {
     }
 }
 
-#[derive(Drop)]
+#[derive(Clone, Copy)]
 pub enum Size {
     Bits(usize),
     Unfit,

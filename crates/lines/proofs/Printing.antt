@@ -7,8 +7,7 @@ use native.Mathlib.Omega.{arith}
 use lib.ListN.{length, set, length-set}
 use Rattle.text.specs.Text.{Wrote, spaced}
 use Rattle.text.proofs.Writing.{wrote_more, wrote_both}
-use Rattle.io.specs.Counts.{IsPrefixLen}
-use Rattle.lines.specs.Lines.{start_of, Held, Stands, Says}
+use Rattle.lines.specs.Lines.{IsPrefixLen, start_of, Held, Stands, Says}
 use Rattle.lines.specs.declared.line.Line.{Line}
 use Rattle.lines.specs.declared.line.Line.TheVariants.{Bytes}
 use Rattle.lines.specs.declared.input.Taken.{Taken}

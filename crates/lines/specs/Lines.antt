@@ -1,12 +1,15 @@
 -- What is read and what is printed: a record's body, and the line that answers it.
 use Rattle.std.specs.Prelude.{◌≡◌, Bool, true, false, cond, List, [], ◌∷◌, ◌++◌, ℕ, ◌≤◌, eqb, length, take, drop}
 use Rattle.std.proofs.Math.Option.{Option, none, some}
-use Rattle.io.specs.Counts.{IsPrefixLen}
 use Rattle.text.specs.Text.{Wrote, spaced, hex_of}
 use Rattle.lines.specs.declared.input.Taken.{Taken}
 use Rattle.lines.specs.declared.input.Taken.TheVariants.{Record, Cut, End}
 use Rattle.lines.specs.declared.line.Line.{Line}
 use Rattle.lines.specs.declared.line.Line.TheVariants.{Bytes, Short}
+
+-- The first n bytes of a run are within it.
+abbrev pub IsPrefixLen : ℕ → List ℕ → Type 0
+IsPrefixLen n xs = (n ≤ length xs) × (n ≡ length (take n xs))
 
 -- A record's body stands at the buffer's start.
 abbrev pub Held : Taken → List ℕ → Type 0

@@ -1,34 +1,52 @@
 // Records from standard input: two bytes length of what follows, two bytes kind, body.
-ghost use Rattle.io.specs.Counts.{IsPrefixLen};
-ghost use Rattle.lines.specs.Lines.{Held};
+ghost use Rattle.std.specs.Prelude.{take};
+ghost use Rattle.std.specs.Io.KnownBytes.{Consumes};
+ghost use Rattle.lines.specs.Lines.{IsPrefixLen, Held};
 
-use libc::STDIN_FILENO;
 use records::two_at;
+use std::io::Read;
 
 // What was read: a record's kind and the length of its body, which stands at the buffer's start.
-#[derive(Drop)]
+#[derive(Clone, Copy)]
 pub enum Taken {
     Record(u16, usize),
     Cut,
     End,
 }
 
+// Reads until `run` is full, the input ends or a read fails, and answers how many bytes it put at the start of `run`.
+// On an empty `run` it makes no call.
+pub fn read_full<R: Read>(input: &mut R, run: &mut [u8]) -> usize
+    ensures in_bounds { IsPrefixLen result run.new }
+    ensures bytes { Consumes (R.remaining input.old) (R.remaining input.new) (take result run.new) }
+{
+    let mut done = 0;
+    while done < run.len() {
+        match input.read(&mut run[done..]) {
+            Ok(0) => break,
+            Ok(n) => done += n,
+            Err(_) => break,
+        }
+    }
+    done
+}
+
 // Reads `n` bytes to the start of `run`, and answers how many of them were there; 0 where `run` is shorter.
-fn fill(run: &mut [u8], n: usize) -> usize
+fn fill<R: Read>(input: &mut R, run: &mut [u8], n: usize) -> usize
     ensures { IsPrefixLen result run.new }
 {
     if run.len() < n {
         return 0;
     }
-    io::read_full(STDIN_FILENO, &mut run[..n])
+    read_full(input, &mut run[..n])
 }
 
 // Takes the next record. `Cut` is one that is cut off, has a length below 2, or a body that is longer than the
 // buffer. A buffer below four bytes takes none.
-pub fn take(body: &mut [u8]) -> Taken
+pub fn take<R: Read>(input: &mut R, body: &mut [u8]) -> Taken
     ensures { Held result body.new }
 {
-    let got = fill(body, 4);
+    let got = fill(input, body, 4);
     if got == 0 {
         return Taken::End;
     }
@@ -41,7 +59,7 @@ pub fn take(body: &mut [u8]) -> Taken
         return Taken::Cut;
     }
     let n = length - 2;
-    let came = fill(body, n);
+    let came = fill(input, body, n);
     if came != n {
         return Taken::Cut;
     }

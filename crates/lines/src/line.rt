@@ -4,10 +4,10 @@ ghost use Rattle.text.specs.Text.{Wrote, decimal_of, hex_of};
 ghost use Rattle.lines.specs.Lines.{Stands, Says, start_of, line_of, start_with, line_with, line_then};
 ghost use Rattle.lines.specs.Lines.{hex_text, rest_of, shown_of, unknown_line};
 
-use libc::STDOUT_FILENO;
+use std::io::Write;
 
 // How many bytes of a buffer are a line; or there is none, since the record is too short for its kind.
-#[derive(Drop)]
+#[derive(Clone, Copy)]
 pub enum Line {
     Bytes(usize),
     Short,
@@ -138,17 +138,17 @@ pub fn unknown(out: &mut [u8]) -> Line
     Line::Bytes(text::copy(out, 0, b"kind\n"))
 }
 
-// Writes the first `n` bytes of a buffer to standard output; false where it takes no more.
-pub fn say(line: &[u8], n: usize) -> bool
+// Writes the first `n` bytes of a buffer to `to`, as to standard output; false where it takes no more.
+pub fn say<W: Write>(to: &mut W, line: &[u8], n: usize) -> bool
     requires { n ≤ length line.now }
 {
-    io::write_all(STDOUT_FILENO, &line[0..n])
+    to.write_all(&line[0..n]).is_ok()
 }
 
 // Says that a record is cut off. Nothing is read after it: false.
-pub fn cut() -> bool
+pub fn cut<W: Write>(to: &mut W) -> bool
     ensures { result ≡ false }
 {
-    io::write_all(STDOUT_FILENO, b"cut\n");
+    say(to, b"cut\n", 4);
     false
 }

@@ -1,0 +1,11 @@
+use native.Mathlib.Omega.{arith}
+use Rattle.lines.specs.Lines.{line_of}
+use Rattle.lines.proofs.Printing.{ended}
+use Rattle.lines.proofs.line.line_of.Goals as goal
+
+pub returns : goal.returns
+unfolding line_of
+returns c =
+    let a = c.args in
+    let s = c.start-end in
+    ended a.out.now _ s.ensures.0 s.auto.out (omega (arith, s.ensures.1))
