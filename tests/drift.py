@@ -4,7 +4,8 @@
 drift.py        from the top of a repository in which all is proved
 
 Each drift swaps two parameters of a call. Contract and function name them as before, so the call still does what it
-promises, and every crate that `demands` stands on is proved. All are tried at once on a copy, in target/drift/. There
+promises, and every crate that `demands` stands on is proved. All are tried at once on a copy, outside the repository.
+There
 - what `demands` stands on must be proved;
 - `demands` must be refused, at those functions of its src/ that make these calls, and at no other;
 - without the functions of its src/ `demands` must be proved: nothing else in it sees the drift.
@@ -14,6 +15,7 @@ import re
 import shutil
 import subprocess
 import sys
+import tempfile
 
 import gate
 
@@ -29,73 +31,66 @@ DRIFTS = (
      {"hears"}),
 )
 TOP = os.getcwd()
-COPY = os.path.join(TOP, "target", "drift")
 
 
 def stop(text):
     sys.exit("drift: " + text)
 
 
-def path(crate, *names):
-    return os.path.join(COPY, "crates", crate, *names)
+def path(copy, crate, *names):
+    return os.path.join(copy, "crates", crate, *names)
 
 
-def check(*names):
-    """Proves crates of the copy: whether they are, and what was said."""
-    done = subprocess.run(["rt", "check", *names], cwd=COPY, stdout=subprocess.PIPE, stderr=subprocess.STDOUT,
-                          encoding="utf-8", errors="replace")
+def check(copy, name):
+    """Proves a crate of the copy, and those below it: whether it is proved, and what was said."""
+    done = subprocess.run(["rt", "check"], cwd=path(copy, name), stdin=subprocess.DEVNULL, stdout=subprocess.PIPE,
+                          stderr=subprocess.STDOUT, encoding="utf-8", errors="replace")
     if done.returncode not in (0, 1):
-        stop("rt check %s ended with %d:\n%s" % (" ".join(names), done.returncode, done.stdout[-2000:]))
-    return done.returncode == 0, done.stdout
+        stop("rt check of %s ended with %d:\n%s" % (name, done.returncode, done.stdout[-2000:]))
+    return done.returncode == 0 and bool(re.search(r"^logic=proved", done.stdout, re.M)), done.stdout
 
 
 def replace(file, old, new):
     with open(file, encoding="utf-8") as text:
         whole = text.read()
     if whole.count(old) != 1:
-        stop("%s is in %s %d times" % (old, os.path.relpath(file, COPY), whole.count(old)))
+        stop("%s is %d times in %s" % (old, whole.count(old), file))
     with open(file, "w", encoding="utf-8") as text:
         text.write(whole.replace(old, new))
 
 
-def copied():
-    """Copies `demands` and what it stands on, with what is proved of them."""
-    shutil.rmtree(COPY, ignore_errors=True)
+def try_on(copy):
     listed = gate.crates(TOP)
-    names = gate.reached(listed, ["demands"])
-    for name in names:
-        shutil.copytree(os.path.join(TOP, "crates", name), path(name))
-    with open(os.path.join(COPY, "crates.txt"), "w", encoding="utf-8") as text:
-        for name, below in listed.items():
-            if name in names:
-                text.write("%s: %s\n" % (name, " ".join(below)))
-    return sorted(names - {"demands"})
-
-
-def main():
-    below = copied()
+    gate.copy(TOP, copy, gate.reached(listed, ["demands"]))
     for crate, file, old, new, _ in DRIFTS:
-        replace(path(crate, file), old, new)
-    proved, said = check(*below)
-    if not proved:
-        stop("what the demands stand on is not proved with the drifts:\n" + said[-3000:])
-    proved, said = check("demands")
+        replace(path(copy, crate, file), old, new)
+    for name in listed["demands"]:
+        proved, said = check(copy, name)
+        if not proved:
+            stop("%s, which the demands stand on, is not proved with the drifts:\n%s" % (name, said[-3000:]))
+    proved, said = check(copy, "demands")
     if proved:
         stop("the demands do not see the drifts")
     seen = set(re.findall(r"^fn demands::(\w+): (?!proved)", said, re.M))
     asked = set().union(*(drift[-1] for drift in DRIFTS))
     if seen != asked:
-        stop("refused are %s, and not %s" % (", ".join(sorted(seen)), ", ".join(sorted(asked))))
+        stop("refused are %s, and not %s:\n%s" % (", ".join(sorted(seen)), ", ".join(sorted(asked)), said[-3000:]))
     for name in re.findall(r"^fn demands::(\w+): ", said, re.M):
-        shutil.rmtree(path("demands", "proofs", name))
-    with open(path("demands", "src", "lib.rt"), "w", encoding="utf-8") as text:
-        text.write("// No function.\n")
-    proved, said = check("demands")
+        shutil.rmtree(path(copy, "demands", "proofs", name), ignore_errors=True)
+    with open(path(copy, "demands", "src", "lib.rt"), "w", encoding="utf-8") as text:
+        text.write("// No function.\n#![tactic(auto)]\n")
+    proved, said = check(copy, "demands")
     if not proved:
         stop("the demands are not proved without their functions:\n" + said[-3000:])
-    shutil.rmtree(COPY)
+    return len(asked)
+
+
+def main():
+    with tempfile.TemporaryDirectory(prefix="drift-") as copy:
+        gate.at_signal(lambda: shutil.rmtree(copy, ignore_errors=True))
+        count = try_on(copy)
     print("drift: %d contracts that drifted with their functions, seen by %d functions of `demands` and by nothing else"
-          % (len(DRIFTS), len(asked)))
+          % (len(DRIFTS), count))
 
 
 if __name__ == "__main__":

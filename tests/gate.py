@@ -1,6 +1,10 @@
-"""What tests/edits and tests/progress share: the crates of crates.txt, times in words, and an end by a signal."""
+"""What the scripts of the gate share: the crates of crates.txt, a copy of them, times in words, and an end by a
+signal."""
 import os
+import shutil
 import signal
+
+PARTS = ("src", "specs", "proofs")  # the folders of a crate that a proof reads
 
 
 def crates(top):
@@ -10,7 +14,7 @@ def crates(top):
         for line in text:
             name, colon, rest = line.partition("#")[0].partition(":")
             if colon:
-                found[name.strip()] = rest.split()
+                found[name.split()[0]] = rest.split()
     return found
 
 
@@ -23,6 +27,22 @@ def reached(listed, names):
             found.add(name)
             todo += listed[name]
     return found
+
+
+def copy(top, to, names):
+    """Copies crates as they are proved, without what is made of them. `rt` begins there with what it kept here."""
+    for file in ("crates.txt", "HANDLES"):
+        if os.path.isfile(os.path.join(top, file)):
+            with open(os.path.join(top, file), encoding="utf-8") as text:
+                lines = text.readlines()
+            if file == "crates.txt":
+                lines = [line for line in lines if line.split(":")[0].split(" ")[0].strip() in names]
+            with open(os.path.join(to, file), "w", encoding="utf-8") as text:
+                text.writelines(lines)
+    for name in names:
+        for part in PARTS:
+            if os.path.isdir(os.path.join(top, "crates", name, part)):
+                shutil.copytree(os.path.join(top, "crates", name, part), os.path.join(to, "crates", name, part))
 
 
 def words(seconds):

@@ -2,18 +2,18 @@
 use mathlib.Core.Path.{◌≡◌, refl, sym, ap, ◌∙◌}
 use mathlib.Core.Logic.{◌⊎◌, inl, inr}
 use mathlib.Core.Bool.{Bool, true, false, cond, ◌&&◌, true≢false}
-use mathlib.Core.List.{List, [], ◌∷◌, ◌++◌, append-nil}
-use Prim.Native.Nat.{ℕ, zero, suc, ◌+◌, ◌-◌, ◌*◌, ◌≤◌, ◌<◌}
+use mathlib.Core.List.{List, [], ◌∷◌, ◌++◌}
+use Prim.Native.Nat.{ℕ, zero, suc, ◌+◌, ◌-◌, ◌≤◌, ◌<◌}
 use native.Mathlib.Omega.{arith}
 use lib.Dec.{eqb, leb, ltb}
 use lib.ListN.{get_or, drop}
-use borrow.Author.Tests.{eq-eqb, ne_eqb, eqb-true, eqb-false, lt-ltb, le-ltb, leb-true, leb-false}
-use Rattle.blocks.specs.Slots.{next_frame, frame_number, passing, frames_to, due_frame}
+use borrow.Author.Tests.{ne_eqb, lt-ltb, le-ltb, leb-true, leb-false}
+use Rattle.blocks.specs.Slots.{frame_number, passing, frames_to}
 use Rattle.blocks.proofs.SlotLaws.{Passes, passes, no_later, after_headers}
 use Rattle.answering.specs.Calendar.{yes, was_fragmented, last_frame, first_frame, header_at, end_at, headers, passed_over}
 use Rattle.answering.specs.Calendar.{has_end, ends, slots_from, slots, no_slot, Fits}
 use Rattle.answering.specs.Laid.{All, none, more}
-use Rattle.answering.specs.Laid.{Counted, counted, repeats, blocks, own_slots, Same, Before, InOrder, to_come}
+use Rattle.answering.specs.Laid.{counted, repeats, blocks, own_slots, Same, Before, InOrder, to_come}
 use Rattle.answering.specs.Laid.{First, EndsLast, Laid}
 use Rattle.answering.specs.declared.Response.{Response}
 use Rattle.answering.specs.declared.Slot.{Slot}

@@ -1,5 +1,7 @@
 // The slots in which a response to a message goes out (8.5.6.2 e to g), as a calendar counted in frames from X, the
 // frame in which a header of the answered message was heard.
+#![tactic(auto)]
+
 ghost use Rattle.std.specs.Prelude.{◌≡◌, suc, ◌+◌, ◌-◌, ◌*◌, ◌/◌, ◌%◌, ◌≤◌, ◌<◌};
 ghost use Rattle.blocks.specs.Faults.{first_of};
 ghost use Rattle.blocks.specs.Slots.{passing};
@@ -43,7 +45,7 @@ impl What {
 // (A.4), and, 0 for no, else yes, whether it starts a frame later, whether slot 1 of its first frame is used, whether
 // it is fragmented.
 #[repr(C)]
-#[derive(Drop)]
+#[derive(Clone, Copy)]
 pub struct Response {
     pub frame: u8,
     pub countdown: u8,
@@ -59,7 +61,7 @@ pub struct Response {
 // A slot of the calendar: its frame, counted from X, and that frame's number; the slot; what goes out in it; the
 // countdown in a header.
 #[repr(C)]
-#[derive(Drop)]
+#[derive(Clone, Copy)]
 pub struct Slot {
     pub from: u8,
     pub frame: u8,

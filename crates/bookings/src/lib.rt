@@ -1,4 +1,6 @@
 // The index of the last 32 booked pairs of source address and message reference.
+#![tactic(auto)]
+
 ghost use Rattle.std.specs.Prelude.{◌≡◌, ◌∷◌, ◌+◌, ◌*◌, ◌<◌, ◌≤◌, ◌^◌, length, take};
 ghost use Rattle.history.specs.Line.{start};
 ghost use Rattle.bookings.specs.Kept.{bookings_at, Reached, is_in, entered_in};
@@ -11,7 +13,7 @@ use transport::Transport;
 // The last 32 booked, newest first: how many there are, and each pair as source * 256 + reference. What is not there is
 // zero.
 #[repr(C)]
-#[derive(Drop)]
+#[derive(Clone, Copy)]
 pub struct Bookings {
     pub count: usize,
     pub pairs: [u32; 32],
@@ -19,21 +21,21 @@ pub struct Bookings {
 
 // The answer: the mark, 0 where there is nothing to book, 1 booked, 2 again; and what was read, with the fault.
 #[repr(C)]
-#[derive(Drop)]
+#[derive(Clone, Copy)]
 pub struct Booked {
     pub mark: u8,
     pub transport: Transport,
 }
 
 // The record after a call, and the answer.
-#[derive(Drop)]
+#[derive(Clone, Copy)]
 pub struct Reply {
     pub bookings: Bookings,
     pub booked: Booked,
 }
 
 // The record after a transfer, and the mark: 1 booked, 2 again.
-#[derive(Drop)]
+#[derive(Clone, Copy)]
 struct Entered {
     bookings: Bookings,
     mark: u8,

@@ -1,4 +1,6 @@
 // Building a message: SCH/S, SCH/H and the continuation blocks, one after another.
+#![tactic(auto)]
+
 ghost use Rattle.std.specs.Prelude.{◌≡◌, cond, ◌+◌, ◌*◌, ◌≤◌, eqb, ltb, length, take, drop};
 ghost use Rattle.bits.specs.Bits.{bits_of, over, Inside};
 ghost use Rattle.bits.specs.Layout.{AllFit, pack};

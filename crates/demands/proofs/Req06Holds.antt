@@ -1,11 +1,10 @@
 -- Request 06 holds. Assumes nothing.
-use mathlib.Core.Path.{◌≡◌, refl, sym, ap, ◌∙◌, subst, subst⁻¹}
+use mathlib.Core.Path.{◌≡◌, refl, sym, ap, ◌∙◌, subst⁻¹}
 use mathlib.Core.Logic.{◌⊎◌, inl, inr}
-use mathlib.Core.Bool.{Bool, true, false, cond, ◌&&◌}
+use mathlib.Core.Bool.{Bool, true, false, cond}
 use mathlib.Core.List.{List, [], ◌∷◌, ◌++◌, map, map-append}
 use Prim.Native.Nat.{ℕ, zero, suc, ◌+◌, ◌-◌, ◌*◌, ◌%◌, ◌≤◌}
 use native.Mathlib.Omega.{arith}
-use lib.Dec.{eqb}
 use lib.ListN.{length, take, drop, replicate, length-append, length-replicate}
 use lib.Seq.{take_at, drop_at}
 use Rattle.blocks.specs.Faults.{first_of}
@@ -13,8 +12,8 @@ use Rattle.blocks.specs.Slots.{frame_number, passing, frames_to}
 use Rattle.blocks.proofs.SlotLaws.{passing_from, frames_from}
 use Rattle.history.specs.Lasts.{slots_on}
 use Rattle.history.specs.declared.Place.{Place}
-use Rattle.answering.specs.Calendar.{yes, was_fragmented, last_frame, first_frame, header_at, end_at, headers, ends}
-use Rattle.answering.specs.Calendar.{passed_over, has_end, slots_from, slots, response_rules, Fits, no_slot, with_fault, with_slots, calendar_at}
+use Rattle.answering.specs.Calendar.{was_fragmented, last_frame, first_frame, header_at, end_at, headers, ends}
+use Rattle.answering.specs.Calendar.{passed_over, has_end, slots_from, slots, response_rules, Fits, no_slot, with_slots, calendar_at}
 use Rattle.answering.specs.Calendar.{calendar_of}
 use Rattle.answering.specs.Laid.{All, none, more, Laid}
 use Rattle.answering.specs.declared.Response.{Response}
@@ -23,8 +22,7 @@ use Rattle.answering.specs.declared.Calendar.{Calendar}
 use Rattle.answering.proofs.FrameLaws.{fits, taken, granted}
 use Rattle.answering.proofs.FillingLaws.{slots_length}
 use Rattle.answering.proofs.LaidHolds.{laid}
-use Rattle.demands.specs.Demand1.{Settles}
-use Rattle.demands.specs.Req06.{sent, place_of, slots_gone, Given, Plans, heard_on, from_earlier, Req06}
+use Rattle.demands.specs.Req06.{place_of, slots_gone, Given, Plans, heard_on, from_earlier, Req06}
 use Rattle.demands.proofs.Demand1Holds.{settles, number_is}
 
 -- ---- slot by slot from slot 1 of frame X

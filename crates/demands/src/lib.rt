@@ -1,6 +1,8 @@
 // The demands, of the calls themselves: each function makes one call, or two in turn, and ensures what the demands say
 // of it; of a response's slots, what request 06 says. Where a call no longer promises what they need, it is refused
 // here. No program calls these.
+#![tactic(auto)]
+
 ghost use Rattle.std.specs.Prelude.{◌≡◌, ◌+◌, ◌*◌, ◌≤◌, ◌<◌, length};
 ghost use Rattle.blocks.specs.Continuation.{read_continuation};
 ghost use Rattle.blocks.specs.Header.{read_header, read_reported};

@@ -1,9 +1,11 @@
 // A reader over a lent block that remembers its bit position.
+#![tactic(auto)]
+
 ghost use Rattle.std.specs.Prelude.{◌≡◌, ◌*◌, ◌^◌, min, length};
 ghost use Rattle.reader.specs.Reading.{left_of, refused_at, taken_at, skipped_at, step_by, answer_of, moved_to};
 
 // A lent block, and a position in it, counted in bits.
-#[derive(Drop)]
+#[derive(Clone, Copy)]
 pub struct Reader<'a> {
     pub block: &'a [u8],
     pub at: usize,
@@ -12,7 +14,7 @@ pub struct Reader<'a> {
 // A step from a position: fault 0, a number, and the position after it. A refusal has its fault number, no number (0),
 // and the position as it was.
 #[repr(C)]
-#[derive(Drop)]
+#[derive(Clone, Copy)]
 pub struct Step {
     pub fault: u8,
     pub value: u64,
@@ -20,7 +22,7 @@ pub struct Step {
 }
 
 // What a reader answers: the step without its position, which the reader keeps.
-#[derive(Drop)]
+#[derive(Clone, Copy)]
 pub struct Taken {
     pub fault: u8,
     pub value: u64,

@@ -12,7 +12,7 @@ use Rattle.history.specs.Line.{Line}
 use Rattle.history.specs.Step as step
 use Rattle.history.specs.Step.{State, message_of, answer, after, lost_in}
 use Rattle.history.specs.declared.Place.{Place}
-use Rattle.reports.specs.Lent.{Lent, Event, heard, fault_in}
+use Rattle.reports.specs.Lent.{Lent, Event, fault_in}
 use Rattle.reports.specs.declared.unit.Settings.{Settings}
 use Rattle.reports.proofs.NearLaws.{nears_once}
 use Rattle.receiver.specs.View.{place_of, receiver_of, answer_of, plain_answer}

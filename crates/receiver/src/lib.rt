@@ -1,4 +1,6 @@
 // The receiver: slot reports in, messages out.
+#![tactic(auto)]
+
 pub mod answer;
 pub mod assembly;
 

@@ -1,17 +1,17 @@
 -- The laws of building a DM-SDU. Assumes nothing.
 use mathlib.Core.Path.{◌≡◌, refl, sym, ap, ap₂, ◌∙◌}
 use mathlib.Core.Bool.{Bool, true, false, cond, ◌&&◌}
-use mathlib.Core.List.{List, [], ◌∷◌, ◌++◌, append_assoc, append-nil}
+use mathlib.Core.List.{List, [], ◌∷◌, ◌++◌}
 use Prim.Native.Nat.{ℕ, zero, suc, ◌+◌, ◌-◌, ◌*◌, ◌/◌, ◌%◌, ◌^◌, ◌≤◌, ◌<◌}
-use native.Mathlib.Nat.{zero-add, add-zero}
+use native.Mathlib.Nat.{zero-add}
 use native.Mathlib.Omega.{arith}
-use lib.Dec.{eqb, leb, ltb}
-use lib.ListN.{length, take, drop, replicate, get_or, length-append, length-take, length-drop}
+use lib.Dec.{eqb, ltb}
+use lib.ListN.{length, take, drop, replicate, get_or, length-append}
 use lib.ListN.{length-replicate, take-append-drop}
 use lib.Seq.{drop-cons, drop-length, length-take-le}
 use borrow.Author.Tests.{le-ltb, lt-ltb, ltb-true, eqb-true, eqb-false, eq-eqb, ne_eqb}
 use Rattle.bits.specs.Bits.{num, bits_n, bits_of, bytes_n, over, AllBytes}
-use Rattle.bits.specs.Layout.{Part, part, pack, total, parts_with, AllFit, AllNarrow}
+use Rattle.bits.specs.Layout.{Part, parts_with, AllFit, AllNarrow}
 use Rattle.bits.proofs.Numbers.{ones_of}
 use Rattle.bits.proofs.Bytes.{length_bits_of}
 use Rattle.bits.proofs.Over.{over_over, over_read, over_drop, bytes_written}
@@ -19,10 +19,9 @@ use Rattle.store.specs.Store.{message_bytes, handed}
 use Rattle.store.proofs.Messages.{message_filled}
 use Rattle.fcs.specs.Annex.{fcs_of}
 use Rattle.fcs.proofs.Annex.{length_fcs, fcs_bits}
-use Rattle.transport.specs.Layouts.{per, forward_width, Shape, shape, layout, at}
+use Rattle.transport.specs.Layouts.{per, Shape, at}
 use Rattle.transport.specs.Building.{fits, checked, message_bits, stored_holds}
 use Rattle.transport.specs.Reading.{direct}
-use Rattle.transport.proofs.ElementLaws.{per_le, forward_le}
 
 -- ---- numbers that fit
 

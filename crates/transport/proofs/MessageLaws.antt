@@ -1,20 +1,20 @@
 -- The laws of a build once its kind and its flags have passed, and of the whole. Assumes nothing.
 use mathlib.Core.Path.{◌≡◌, refl, sym, ap, ap₂, ◌∙◌}
-use mathlib.Core.Bool.{Bool, true, false, cond}
-use mathlib.Core.List.{List, [], ◌∷◌, ◌++◌}
-use Prim.Native.Nat.{ℕ, zero, suc, ◌+◌, ◌-◌, ◌*◌, ◌^◌, ◌≤◌, ◌<◌}
+use mathlib.Core.Bool.{Bool}
+use mathlib.Core.List.{List, ◌++◌}
+use Prim.Native.Nat.{ℕ, zero, suc, ◌+◌, ◌-◌, ◌*◌, ◌≤◌}
 use native.Mathlib.Omega.{arith}
-use lib.Dec.{eqb, leb, ltb}
+use lib.Dec.{leb}
 use lib.ListN.{length, take, length-take}
-use borrow.Author.Tests.{leb-true, eqb-true}
+use borrow.Author.Tests.{leb-true}
 use Rattle.bits.specs.Bits.{bits_of}
-use Rattle.bits.specs.Layout.{Part, pack, total, parts_with, AllFit, AllNarrow}
+use Rattle.bits.specs.Layout.{pack, total, parts_with, AllFit, AllNarrow}
 use Rattle.bits.proofs.Bytes.{length_bits_of}
 use Rattle.store.specs.Store.{handed}
-use Rattle.blocks.specs.Faults.{unless, first_of}
+use Rattle.blocks.specs.Faults.{first_of}
 use Rattle.blocks.proofs.FaultLaws.{chain_none, chain_given}
 use Rattle.transport.proofs.RuleLaws.{kind_holds, flags_hold, fit_holds}
-use Rattle.transport.specs.Layouts.{ack_of, per, forward_width, Shape, shape, layout, at}
+use Rattle.transport.specs.Layouts.{ack_of, per, Shape, shape, layout, at}
 use Rattle.transport.specs.Building.{shape_for, data_at, message_bits, length_for, values_for, parts_for, frame_bits}
 use Rattle.transport.specs.Building.{checked, built_bits, bits_for, stored_holds, kind_rules, flag_rules, most_for}
 use Rattle.transport.specs.Building.{fits, fit_rules, build_fault, Passed, PutsSdu, built_as, fit_fault, out_as}

@@ -20,7 +20,6 @@ use Rattle.transport.specs.Building.{most_for, fits, kind_rules, flag_rules, fit
 use Rattle.transport.specs.Building.{out_of}
 use Rattle.transport.specs.Well.{Buildable}
 use Rattle.transport.specs.declared.Message.{Message}
-use Rattle.transport.specs.declared.Sdu.{Sdu}
 use Rattle.transport.proofs.RuleLaws.{kind_holds, flags_hold, fit_holds}
 use Rattle.transport.proofs.BuildLaws.{fits_all, all_fits}
 use Rattle.transport.proofs.WellLaws.{by_kind, ack_small, holds_when}

@@ -15,7 +15,7 @@ use Rattle.blocks.proofs.FaultLaws.{chain_none, chain_given}
 use Rattle.transport.proofs.RuleLaws.{end_holds}
 use Rattle.fcs.specs.Annex.{fcs_of}
 use Rattle.transport.specs.Layouts.{ack_of, per, Shape, shape, at}
-use Rattle.transport.specs.Elements.{element_in, addressed_in, kind_in, storage_in, forward_in, shape_of, end_in}
+use Rattle.transport.specs.Elements.{element_in, addressed_in, kind_in, storage_in, forward_in, end_in}
 use Rattle.transport.specs.Runs.{run_in, front_of, kind_at, fixed_at, stored_at, front_rules, end_rules}
 use Rattle.transport.specs.Reading.{direct, forward_holds, fcs_holds, sdu_rules, rules_of, transport_of}
 use Rattle.transport.specs.Reading.{refused_transport, answered, read_bits, read_of, sdu_bits}

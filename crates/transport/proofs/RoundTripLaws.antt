@@ -18,7 +18,7 @@ use Rattle.fcs.specs.Annex.{fcs_of}
 use Rattle.fcs.proofs.Annex.{length_fcs}
 use Rattle.transport.specs.Layouts.{ack_of, per, forward_width, Shape, layout, at, end_of}
 use Rattle.transport.specs.Reading.{direct, read_bits, read_of}
-use Rattle.transport.specs.Building.{shape_for, message_bits, length_for, parts_for, frame_bits, checked}
+use Rattle.transport.specs.Building.{shape_for, message_bits, parts_for, frame_bits, checked}
 use Rattle.transport.specs.Building.{built_bits, bits_for, sdu_of, out_of}
 use Rattle.transport.specs.Well.{end_at, ReadsWell, transport_at, Buildable}
 use Rattle.transport.specs.declared.Message.{Message}

@@ -6,7 +6,7 @@ use Prim.Native.Nat.{ℕ, zero, suc, ◌+◌, ◌-◌, ◌*◌, ◌≤◌}
 use native.Mathlib.Omega.{arith}
 use lib.Dec.{eqb, leb, ltb}
 use lib.ListN.{length, take, drop, get_or, length-take, length-drop}
-use borrow.Author.Tests.{le-ltb, le-leb, eq-eqb, leb-true, ltb-false, eqb-true}
+use borrow.Author.Tests.{le-ltb, le-leb, eq-eqb, ltb-false, eqb-true}
 use Rattle.bits.specs.Bits.{num, field}
 use Rattle.bits.specs.Layout.{place_in}
 use Rattle.bits.proofs.Numbers.{num_inj}

@@ -1,6 +1,6 @@
 -- The DM-SDU of DM-SDS UDATA (9.5.15), DM-SDS DATA (9.5.16) and DM-SDS ACK (9.5.17) with an SDS-TL message
 -- (EN 300 392-2, 29.4.2) in it: one list of widths, which is read and built by.
-use Rattle.std.specs.Prelude.{Bool, cond, List, [], ◌∷◌, ℕ, ◌+◌, ◌-◌, ◌*◌, eqb}
+use Rattle.std.specs.Prelude.{cond, List, [], ◌∷◌, ℕ, ◌+◌, ◌-◌, ◌*◌, eqb}
 use Rattle.bits.specs.Layout.{place_in}
 
 -- The message types of the header that carry one: DM-SDS UDATA 22, DM-SDS DATA 23, DM-SDS ACK 24. 1 for DM-SDS ACK.

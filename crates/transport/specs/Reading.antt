@@ -1,5 +1,5 @@
 -- Reading a DM-SDU: which of the four messages it is, its elements and its user data, and what is refused.
-use Rattle.std.specs.Prelude.{Bool, true, false, cond, List, [], ◌∷◌, ℕ, zero, suc, ◌+◌, ◌-◌, ◌*◌, ◌%◌, eqb, leb, ltb, length, take}
+use Rattle.std.specs.Prelude.{Bool, true, cond, List, [], ◌∷◌, ℕ, zero, suc, ◌+◌, ◌-◌, ◌*◌, ◌%◌, eqb, leb, ltb, length, take}
 use Rattle.bits.specs.Bits.{bits_of, num, field}
 use Rattle.blocks.specs.Faults.{unless, first_of}
 use Rattle.fcs.specs.Annex.{fcs_of}

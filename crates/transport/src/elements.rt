@@ -89,7 +89,7 @@ fn part32(x: u64, after: usize, w: usize) -> u32
 }
 
 // What stands before the short data type identifier, which begins at `next`.
-#[derive(Drop)]
+#[derive(Clone, Copy)]
 pub(crate) struct Front {
     pub acknowledged: u8,
     pub addressed: u8,
@@ -135,7 +135,7 @@ pub(crate) fn front_of(x: u64, ack: usize) -> Front
 
 // The elements that a message of this kind always has; `from` is where user defined data 4 or the status begins, `next`
 // the bit after the message reference.
-#[derive(Drop)]
+#[derive(Clone, Copy)]
 pub(crate) struct Fixed {
     pub length: usize,
     pub from: usize,
@@ -231,7 +231,7 @@ pub(crate) fn fixed_at(at: usize, kind: u8, x: u64) -> Fixed
 }
 
 // The elements that hang on storage, from bit `at` on; `address` is preceded by its type, which ends at `typed`.
-#[derive(Drop)]
+#[derive(Clone, Copy)]
 pub(crate) struct Stored {
     pub validity: u8,
     pub forward: u8,

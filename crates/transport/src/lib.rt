@@ -1,5 +1,7 @@
 // SDS-TL messages in direct mode: the four messages of EN 300 392-2, 29.4.2, inside the DM-SDU elements of
 // EN 300 396-3, 9.7.
+#![tactic(auto)]
+
 mod building;
 mod elements;
 mod reading;
@@ -16,7 +18,7 @@ use blocks::header::Fields;
 // is the delivery status, of a short report its type. `address` is the forward address as one number: SSI, or SSI times
 // 2^24 and the extension.
 #[repr(C)]
-#[derive(Drop)]
+#[derive(Clone, Copy)]
 pub struct Message {
     pub kind: u8,
     pub addressed: u8,
@@ -37,7 +39,7 @@ pub struct Message {
 // A DM-SDU that was read; where it was refused, all but the fault is 0. `first` is the first bit of the user data and
 // `bits` their number.
 #[repr(C)]
-#[derive(Drop)]
+#[derive(Clone, Copy)]
 pub struct Transport {
     pub fault: u8,
     pub message: Message,
@@ -47,7 +49,7 @@ pub struct Transport {
 
 // What a build answers: its fault, or the DM-SDU's number of bits.
 #[repr(C)]
-#[derive(Drop)]
+#[derive(Clone, Copy)]
 pub struct Sdu {
     pub fault: u8,
     pub bits: usize,

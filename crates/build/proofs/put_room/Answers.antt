@@ -1,0 +1,22 @@
+use mathlib.Core.Path.{◌∙◌}
+use native.Mathlib.Omega.{arith}
+use lib.ListN.{take, drop}
+use Rattle.bits.specs.Bits.{bits_of}
+use Rattle.bits.proofs.Bytes.{length_bits_of}
+use Rattle.build.proofs.BuildLaws.{room_put, length_part}
+use Rattle.build.proofs.put_room.Goals as goal
+
+pub returns : goal.returns
+returns c =
+    let a =
+    c.args in
+    let m = take a.count (drop a.from (bits_of a.message.now)) in
+    c.put.ensures
+    ∙ rw (
+      c.fill.ensures,
+      c.copy.ensures,
+    )
+    (room_put a.at a.count a.room m (bits_of a.out.now)
+    (length_part a.count a.from (bits_of a.message.now) (omega (arith, length_bits_of a.message.now)))
+    (omega arith)
+    (omega (arith, length_bits_of a.out.now)))

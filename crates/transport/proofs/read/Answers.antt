@@ -1,0 +1,29 @@
+use mathlib.Core.Path.{sym, ◌∙◌}
+use Prim.Native.Nat.{◌*◌}
+use native.Mathlib.Omega.{arith}
+use lib.ListN.{length}
+use borrow.Author.Tests.{leb-true}
+use Rattle.transport.proofs.ReadLaws.{lent_refused, lent_read}
+use Rattle.transport.proofs.read.Goals as goal
+
+pub returns-then-not-bits_lent : goal.returns-then-not-bits_lent
+returns-then-not-bits_lent c =
+    let a = c.args in
+    c.refused.ensures
+    ∙ lent_refused a.fields.message a.fields.elements a.n a.sdu.now
+    (sym c.bits_lent.ensures ∙ c.if-not-bits_lent.true)
+
+pub read_bits-requires : goal.read_bits-requires
+read_bits-requires c =
+    let a = c.args in (
+      leb-true a.n (8 * length a.sdu.now)
+          (sym c.bits_lent.ensures ∙ c.if-not-bits_lent.false),
+      omega arith,
+    )
+
+pub returns : goal.returns
+returns c =
+    let a = c.args in
+    c.read_bits.ensures
+    ∙ lent_read a.fields.message a.fields.elements a.n a.sdu.now
+    (sym c.bits_lent.ensures ∙ c.if-not-bits_lent.false)
