@@ -21,7 +21,7 @@ pub(crate) enum Shown {
 }
 
 // The receiver after the next record, the bytes that the record takes, and what is shown of its reply.
-#[derive(Drop)]
+#[derive(Clone, Copy)]
 pub(crate) struct NextReply {
     pub receiver: Receiver,
     pub took: usize,
