@@ -1,7 +1,8 @@
 // Records from standard input: two bytes length of what follows, two bytes kind, body.
-ghost use Rattle.std.specs.Prelude.{take};
+ghost use Rattle.std.specs.Prelude.{◌≤◌, take};
 ghost use Rattle.std.specs.Io.KnownBytes.{Consumes};
 ghost use Rattle.lines.specs.Lines.{IsPrefixLen, Held};
+ghost use Rattle.lines.specs.Input.{Took};
 
 use records::two_at;
 use std::io::Read;
@@ -33,7 +34,9 @@ pub fn read_full<R: Read>(input: &mut R, run: &mut [u8]) -> usize
 
 // Reads `n` bytes to the start of `run`, and answers how many of them were there; 0 where `run` is shorter.
 fn fill<R: Read>(input: &mut R, run: &mut [u8], n: usize) -> usize
-    ensures { IsPrefixLen result run.new }
+    ensures in_bounds { IsPrefixLen result run.new }
+    ensures at_most { result ≤ n }
+    ensures bytes { Consumes (R.remaining input.old) (R.remaining input.new) (take result run.new) }
 {
     if run.len() < n {
         return 0;
@@ -44,7 +47,8 @@ fn fill<R: Read>(input: &mut R, run: &mut [u8], n: usize) -> usize
 // Takes the next record. `Cut` is one that is cut off, has a length below 2, or a body that is longer than the
 // buffer. A buffer below four bytes takes none.
 pub fn take<R: Read>(input: &mut R, body: &mut [u8]) -> Taken
-    ensures { Held result body.new }
+    ensures held { Held result body.new }
+    ensures took { Took (R.remaining input.old) (R.remaining input.new) result body.new }
 {
     let got = fill(input, body, 4);
     if got == 0 {

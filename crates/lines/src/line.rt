@@ -1,5 +1,6 @@
 // Lines, put together in a buffer.
-ghost use Rattle.std.specs.Prelude.{◌≡◌, false, [], ◌∷◌, ◌++◌, ◌+◌, ◌*◌, ◌≤◌, ◌<◌, length, drop};
+ghost use Rattle.std.specs.Prelude.{◌≡◌, true, false, [], ◌∷◌, ◌++◌, ◌+◌, ◌*◌, ◌≤◌, ◌<◌, length, take, drop};
+ghost use Rattle.std.specs.Io.KnownBytes.{Appends};
 ghost use Rattle.text.specs.Text.{Wrote, decimal_of, hex_of};
 ghost use Rattle.lines.specs.Lines.{Stands, Says, start_of, line_of, start_with, line_with, line_then};
 ghost use Rattle.lines.specs.Lines.{hex_text, rest_of, shown_of, unknown_line};
@@ -141,6 +142,7 @@ pub fn unknown(out: &mut [u8]) -> Line
 // Writes the first `n` bytes of a buffer to `to`, as to standard output; false where it takes no more.
 pub fn say<W: Write>(to: &mut W, line: &[u8], n: usize) -> bool
     requires { n ≤ length line.now }
+    ensures { result ≡ true → Appends (W.contents to.old) (W.contents to.new) (take n line.now) }
 {
     to.write_all(&line[0..n]).is_ok()
 }

@@ -15,7 +15,7 @@ use Rattle.build.specs.declared.Built.{Built}
 use Rattle.lines.specs.Lines.{unknown_line, Stands, Says}
 use Rattle.lines.specs.declared.line.Line.TheVariants.{Bytes, Short}
 use Rattle.lines.proofs.Outputs.{take_same}
-use Rattle.probe_blocks.specs.Body.{sync_in, countdown_in_record, fields_in, n_in, lent_in, message_in}
+use Rattle.probe_blocks.specs.Body.{sync_in, countdown_in_record, fields_in, n_in, lent_in}
 use Rattle.probe_blocks.specs.Calls.{written_by, build_text, built_text, build_line}
 
 -- what was written is within the output

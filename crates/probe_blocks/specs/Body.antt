@@ -1,7 +1,7 @@
 -- The numbers of a record's body, the lowest byte first, and the fields of a build's: system code, A/B usage, slot,
 -- frame and countdown; destination type and destination, source type and source; MNI; message type, width and elements;
 -- n; the output's length; the message.
-use Rattle.std.specs.Prelude.{List, ℕ, ◌+◌, ◌*◌, get_or, drop}
+use Rattle.std.specs.Prelude.{List, ℕ, get_or, drop}
 use Rattle.records.specs.Numbers.{two_at, four_at, eight_at}
 use Rattle.blocks.specs.declared.sync.Sync.{Sync}
 use Rattle.blocks.specs.declared.header.Fields.{Fields}

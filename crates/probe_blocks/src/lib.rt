@@ -1,5 +1,7 @@
 // The calls that leave a receiver alone, made as records name them: builds, reads and the layout, each with its
 // answer's line.
+#![tactic(auto)]
+
 mod body;
 mod calls;
 mod print;

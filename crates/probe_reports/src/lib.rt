@@ -1,5 +1,7 @@
 // The calls that give another receiver, made as records name them: settings and slot reports, each with its answer's
 // line.
+#![tactic(auto)]
+
 ghost use Rattle.std.specs.Prelude.{◌≡◌, ◌≤◌, length};
 ghost use Rattle.receiver.specs.Reached.{Reached};
 ghost use Rattle.lines.specs.Lines.{Stands};
@@ -12,7 +14,7 @@ use receiver::Receiver;
 use receiver::answer::Answer;
 
 // The receiver after a record, and the record's line.
-#[derive(Drop)]
+#[derive(Clone, Copy)]
 pub struct ReceiverLine {
     pub receiver: Receiver,
     pub line: Line,

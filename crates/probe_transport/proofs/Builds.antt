@@ -13,7 +13,7 @@ use Rattle.transport.specs.declared.Sdu.{Sdu}
 use Rattle.lines.specs.Lines.{unknown_line, Stands, Says}
 use Rattle.lines.specs.declared.line.Line.TheVariants.{Bytes, Short}
 use Rattle.lines.proofs.Outputs.{take_same}
-use Rattle.probe_transport.specs.Body.{carrier_in, flag_in, message_in, user_bits_in, output_in, user_in}
+use Rattle.probe_transport.specs.Body.{carrier_in, flag_in, message_in, user_bits_in, output_in}
 use Rattle.probe_transport.specs.Calls.{written_by, sdu_text, built_text, build_line}
 use Rattle.probe_transport.proofs.Saying.{rest_lent}
 

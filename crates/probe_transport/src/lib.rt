@@ -1,4 +1,6 @@
 // SDS-TL messages and bookings, made as records name them: each call with its answer's line.
+#![tactic(auto)]
+
 mod body;
 mod print;
 
@@ -12,7 +14,7 @@ use bookings::Bookings;
 use lines::line::{BEFORE, Line, unknown};
 
 // The bookings after a record, and the record's line.
-#[derive(Drop)]
+#[derive(Clone, Copy)]
 pub struct BookingsLine {
     pub bookings: Bookings,
     pub line: Line,
