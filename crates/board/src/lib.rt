@@ -3,7 +3,6 @@
 #![tactic(auto)]
 
 ghost use Rattle.std.specs.Prelude.{◌≡◌, length};
-ghost use Rattle.answering.specs.Calendar.{calendar_of};
 ghost use Rattle.blocks.specs.Continuation.{read_continuation};
 ghost use Rattle.blocks.specs.Header.{read_header};
 ghost use Rattle.blocks.specs.Slots.{due_of};
@@ -19,7 +18,6 @@ ghost use Rattle.bookings.specs.Book.{lent as lentSdu, Books};
 ghost use Rattle.history.specs.Line.{start};
 ghost use Rattle.board.specs.Board.{replied, booked_reply};
 
-use answering::{Calendar, Response};
 use blocks::continuation::Continuation;
 use blocks::header::{Fields, Header};
 use blocks::slots::Due;
@@ -97,14 +95,6 @@ pub extern "C" fn pierstrand_find_due_frame(x: u8, f: u8, i: u8) -> Due
     ensures { result ≡ due_of x f i }
 {
     blocks::slots::due_frame(x, f, i)
-}
-
-// The slots in which a response goes out: `answering::calendar_of`.
-#[unsafe(no_mangle)]
-pub extern "C" fn pierstrand_find_calendar(response: Response) -> Calendar
-    ensures { result ≡ calendar_of response }
-{
-    answering::calendar_of(response)
 }
 
 // Reads an SDS-TL message from the first `n` bits of a DM-SDU: `transport::read`.
