@@ -7,8 +7,8 @@ import sys
 
 HERE = os.path.dirname(os.path.abspath(__file__))
 TOP = os.path.dirname(HERE)
-# An x86-64 machine has its own compiler, libraries and counter; any other has Debian's for x86-64, Debian's emulator, and
-# the library as an x86-64 machine built it.
+# An x86-64 machine has its own compiler, libraries and counter; any other has Debian's for x86-64, Debian's emulator,
+# and the library as an x86-64 machine built it.
 NATIVE = platform.machine() == "x86_64"
 PREFIX = "" if NATIVE else "x86_64-linux-gnu-"
 LIBC = "/usr/x86_64-linux-gnu"

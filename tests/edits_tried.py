@@ -55,7 +55,7 @@ KNOWN = {
     "seven/refused": ("src/lib.rt", "    7", "    8", "refused, as it must be: note: src/lib.rt:"),
     "seven/survives": ("src/lib.rt", "    3", "    4", "NOT REFUSED: "),
     "seven/not_compiled": ("src/lib.rt", "    7", "    eight", "BAD EDIT: it did not reach the prover"),
-    "seven/not_read": ("src/lib.rt", "result ≡ 7", "result ≡ eight", "BAD EDIT: the prover cannot read the edited text"),
+    "seven/not_read": ("src/lib.rt", "result ≡ 7", "result ≡ eight", "BAD EDIT: the prover cannot read"),
     "seven/text_lost": ("src/lib.rt", "    9", "    8", "BAD EDIT: an 'old:' text is in src/lib.rt 0 times"),
     "seven/text_twice": ("src/lib.rt", "usize", "u8", "BAD EDIT: an 'old:' text is in src/lib.rt 2 times"),
     "seven/proofs_alone": ("proofs/Lib.antt", "-- Nothing", "Nothing", "BAD EDIT: it changes neither src/ nor specs/"),
