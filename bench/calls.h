@@ -9,7 +9,6 @@
 #define SCH_H 16
 #define SCH_F 34
 #define ROOM 512
-#define CALENDAR_SLOTS 9
 
 #ifdef LIBRARY
 
@@ -31,9 +30,6 @@ typedef struct pierstrand_block_count Built;
 typedef struct pierstrand_header Header;
 typedef struct pierstrand_continuation Block;
 typedef struct pierstrand_due_frame Due;
-typedef struct pierstrand_response Response;
-typedef struct pierstrand_slot Slot;
-typedef struct pierstrand_calendar Calendar;
 typedef struct pierstrand_message Message;
 typedef struct pierstrand_transport Transport;
 typedef struct pierstrand_sdu Sdu;
@@ -45,7 +41,6 @@ typedef struct pierstrand_step Step;
 #define ADDRESS_TYPE kind
 #define HEADER_OF(header) (header)
 #define BLOCK_OF(block) (block)
-#define CALENDAR_OF(calendar) (calendar)
 #define TRANSPORT_OF(transport) (transport)
 #define MARK_OF(booked) ((booked).mark)
 #define FAULT_OF(booked) ((booked).transport.fault)
@@ -64,7 +59,6 @@ typedef struct pierstrand_step Step;
 #define READ_BLOCK(block, sch_f, length) ((block) = pierstrand_read_continuation(sch_f, length))
 #define DUE(due, frame, countdown, block)                                                       \
 	((due) = pierstrand_find_due_frame(frame, countdown, block))
-#define CALENDAR(calendar, response) ((calendar) = pierstrand_find_calendar(*(response)))
 #define READ_TRANSPORT(transport, fields, n, sdu, length)                                       \
 	((transport) = pierstrand_read_transport(*(fields), n, sdu, length))
 #define BUILD_TRANSPORT(sdu, carrier, fcs, message, n, user, length, out, room)                 \
@@ -84,8 +78,6 @@ typedef struct dm_report Report;
 typedef struct dm_sync Sync;
 typedef struct dm_fields Fields;
 typedef struct dm_answer Answer;
-typedef struct dm_response Response;
-typedef struct dm_slot Slot;
 typedef struct dm_message Message;
 typedef struct dm_bookings Bookings;
 
@@ -116,11 +108,6 @@ typedef struct {
 
 typedef struct {
 	uint8_t fault;
-	struct dm_calendar calendar;
-} Calendar;
-
-typedef struct {
-	uint8_t fault;
 	struct dm_transport transport;
 } Transport;
 
@@ -143,7 +130,6 @@ typedef struct {
 #define ADDRESS_TYPE type
 #define HEADER_OF(found) ((found).header)
 #define BLOCK_OF(found) ((found).block)
-#define CALENDAR_OF(found) ((found).calendar)
 #define TRANSPORT_OF(found) ((found).transport)
 #define MARK_OF(found) ((found).booked.mark)
 #define FAULT_OF(found) ((found).fault)
@@ -162,7 +148,6 @@ typedef struct {
 #define READ_BLOCK(found, sch_f, length)                                                        \
 	((found).fault = dm_read_continuation(sch_f, length, &(found).block))
 #define DUE(due, x, countdown, i) ((due).fault = dm_layout(x, countdown, i, &(due).frame))
-#define CALENDAR(found, response) ((found).fault = dm_calendar(response, &(found).calendar))
 #define READ_TRANSPORT(found, fields, n, sdu, length)                                           \
 	((found).fault = dm_read_transport(fields, n, sdu, length, &(found).transport))
 #define BUILD_TRANSPORT(sdu, carrier, fcs, message, n, user, length, out, room)                 \

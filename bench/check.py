@@ -1,7 +1,6 @@
 #!/usr/bin/env python3
 """Holds the programs over the library and over both peers against the second program, byte for byte, on its made
-inputs and on its sheets; that of the responses has every input in range. The steps over bits, which the second program
-does not have, are not among them.
+inputs. The steps over bits, which the second program does not have, are not among them.
 
 usage: check.py [--second PROGRAM] [--peers FOLDER] [--run COMMAND] [--seeds FROM TO] [PEER ..]
 
@@ -16,9 +15,9 @@ import subprocess
 import sys
 
 HERE = os.path.dirname(os.path.abspath(__file__))
-KINDS = [("log", "print"), ("calls", "probe"), ("reports", "probe"), ("transport", "probe"), ("answers", "probe")]
+KINDS = [("log", "print"), ("calls", "probe"), ("reports", "probe"), ("transport", "probe")]
 PEERS = ["peer-library", "peer-plain", "peer-osmo", "peer-plain-Os", "peer-osmo-Os"]
-SHEETS = [("slots", "print"), ("blocks", "probe"), ("builds", "probe"), ("transports", "probe"), ("answers", "probe")]
+SHEETS = [("slots", "print"), ("blocks", "probe"), ("builds", "probe"), ("transports", "probe")]
 LONGEST_REPORT = 36
 
 
@@ -83,9 +82,8 @@ def main():
             lines += want.count(b"\n")
             for peer in words.peer:
                 call = words.run.split() + [os.path.join(words.peers, peer), mode]
-                got = run(call, part)
-                if got != want:
-                    found = first_difference(want, got)
+                found = first_difference(want, run(call, part))
+                if found:
                     print(f"{peer}, second {name}, {len(part)} bytes, {mode}, line {found[0]}:")
                     print(f"  second: {found[1]}\n  peer:   {found[2]}")
                     return 1

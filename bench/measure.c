@@ -24,12 +24,10 @@ enum { SILENCE = 1, HEADER, BLOCK };
 enum { NOTHING, UNFRAGMENTED, JOINED, OPENED, KEPT, COPY };
 enum { TRANSFER = 1, DELIVERY_REPORT, DELIVERY_ACK, SHORT_REPORT };
 enum { NOT_BOOKED, BOOKED, AGAIN };
-enum { TO_PLAIN, TO_JOINED, TO_LOST, TO_CONNECT };
 
 #define FRAMES 18
 #define SLOTS (2 * FRAMES)
 #define MOST_REPORTS (4 * SLOTS)
-#define MOST_RESPONSES 12
 
 /* Message bits in a header, in one that blocks follow, in a block, and in all together. */
 #define SHORT 21
@@ -80,17 +78,6 @@ static struct {
 	uint8_t fault;
 	unsigned bits;
 } lent;
-
-/* Responses, and what is to be found of each: a fault, or its slots and zeros after them. */
-static struct {
-	unsigned count;
-	struct asked {
-		Response response;
-		uint8_t fault;
-		unsigned count;
-		Slot slots[CALENDAR_SLOTS];
-	} all[MOST_RESPONSES];
-} responses;
 
 /* What a read of a DM-SDU takes, and what it is to find; what it was built of. */
 static struct {
@@ -514,89 +501,6 @@ static void make_block_fill(void)
 	make_part(INSIDE + 10, SCH_S + SCH_H, SCH_F, 10);
 }
 
-/* One more response, the fault that is to be found, and the slots. */
-static void ask(Response response, unsigned fault, unsigned count, const Slot *slots)
-{
-	struct asked *next = &responses.all[responses.count++];
-
-	memset(next, 0, sizeof *next);
-	next->response = response;
-	next->fault = fault;
-	next->count = count;
-	for (unsigned i = 0; i < count; i++)
-		next->slots[i] = slots[i];
-}
-
-/* To a plain message, in three frames from slot 3 on. Of each slot the frames from X, the frame,
-   the slot, 1 for the header and 2 for the DMAC-END, and the countdown. */
-static void make_calendar_plain(void)
-{
-	static const Slot after_8[] = {
-		{2, 9, 3, 1, 2},  {3, 10, 1, 1, 1}, {3, 10, 3, 1, 1},
-		{4, 11, 1, 1, 0}, {4, 11, 3, 1, 0},
-	};
-	static const Slot after_17[] = {
-		{2, 18, 3, 1, 2}, {3, 1, 1, 1, 1}, {3, 1, 3, 1, 1},
-		{4, 2, 1, 1, 0},  {4, 2, 3, 1, 0},
-	};
-	Response response = {.countdown = 1, .answered = TO_PLAIN, .frames = 3, .dn210 = 3};
-
-	responses.count = 0;
-	response.frame = 7;
-	ask(response, 0, 5, after_8);
-	response.frame = 16;
-	ask(response, 0, 5, after_17);
-}
-
-/* To a message of 15 blocks, in four frames from slot 1 on, with a DMAC-END. The blocks of the
-   first message end in frame 17; those of the other pass over frame 18, as the DMAC-END does. */
-static void make_calendar_joined(void)
-{
-	static const Slot after_17[] = {
-		{17, 18, 1, 1, 3}, {17, 18, 3, 1, 3}, {18, 1, 1, 1, 2}, {18, 1, 3, 1, 2},
-		{19, 2, 1, 1, 1},  {19, 2, 3, 1, 1},  {20, 3, 1, 1, 0}, {20, 3, 3, 1, 0},
-		{21, 4, 1, 2, 0},
-	};
-	static const Slot after_13[] = {
-		{20, 14, 1, 1, 3}, {20, 14, 3, 1, 3}, {21, 15, 1, 1, 2}, {21, 15, 3, 1, 2},
-		{22, 16, 1, 1, 1}, {22, 16, 3, 1, 1}, {23, 17, 1, 1, 0}, {23, 17, 3, 1, 0},
-		{25, 1, 1, 2, 0},
-	};
-	Response response = {.answered = TO_JOINED, .count = 15, .frames = 4, .dn210 = 4,
-			     .slot1 = 1, .fragmented = 1};
-
-	responses.count = 0;
-	response.frame = 1;
-	response.countdown = 1;
-	ask(response, 0, 9, after_17);
-	response.frame = 12;
-	response.countdown = 3;
-	ask(response, 0, 9, after_13);
-}
-
-static void make_calendar_refused(void)
-{
-	static const struct {
-		uint8_t frame, countdown, answered, count, frames, dn210, fault;
-	} refused[MOST_RESPONSES] = {
-		{0, 1, TO_PLAIN, 0, 1, 3, 15},  {19, 1, TO_JOINED, 5, 1, 3, 15},
-		{7, 4, TO_PLAIN, 0, 1, 3, 13},  {7, 1, TO_CONNECT + 1, 0, 1, 3, 13},
-		{7, 1, TO_PLAIN, 16, 1, 3, 13}, {7, 1, TO_JOINED, 5, 1, 5, 13},
-		{7, 1, TO_PLAIN, 0, 0, 3, 13},  {7, 1, TO_JOINED, 5, 4, 3, 13},
-		{7, 1, TO_LOST, 5, 2, 3, 13},   {7, 1, TO_CONNECT, 0, 5, 3, 13},
-		{7, 1, TO_JOINED, 0, 1, 3, 10}, {7, 1, TO_LOST, 0, 1, 3, 10},
-	};
-
-	responses.count = 0;
-	for (unsigned i = 0; i < MOST_RESPONSES; i++) {
-		Response response = {.frame = refused[i].frame, .countdown = refused[i].countdown,
-				     .answered = refused[i].answered, .count = refused[i].count,
-				     .frames = refused[i].frames, .dn210 = refused[i].dn210};
-
-		ask(response, refused[i].fault, 0, NULL);
-	}
-}
-
 /* A DM-SDU with this message, as it is built and read. */
 static void make_sdu(uint8_t carrier, uint8_t fcs, unsigned user)
 {
@@ -833,17 +737,6 @@ static void count_due(unsigned passes)
 				DUE(due, x, i % 4, i);
 				used += due.frame;
 			}
-}
-
-static void count_calendar(unsigned passes)
-{
-	while (passes--)
-		for (unsigned i = 0; i < responses.count; i++) {
-			Calendar found;
-
-			CALENDAR(found, &responses.all[i].response);
-			used += CALENDAR_OF(found).count;
-		}
 }
 
 static void count_fresh(unsigned passes)
@@ -1111,37 +1004,6 @@ static unsigned check_due(void)
 	return calls;
 }
 
-static void add_slot(const Slot *slot, const Slot *want)
-{
-	if (slot->from_x != want->from_x || slot->frame != want->frame ||
-	    slot->slot != want->slot || slot->what != want->what ||
-	    slot->countdown != want->countdown)
-		fail("a slot of a response is another than expected");
-	add(slot->from_x);
-	add(slot->frame);
-	add(slot->slot);
-	add(slot->what);
-	add(slot->countdown);
-}
-
-static unsigned check_calendar(void)
-{
-	for (unsigned i = 0; i < responses.count; i++) {
-		const struct asked *want = &responses.all[i];
-		Calendar found;
-
-		memset(&found, PAINT, sizeof found);
-		ON_PAINT(CALENDAR(found, &want->response));
-		if (found.fault != want->fault || CALENDAR_OF(found).count != want->count)
-			fail("a response has other slots than expected");
-		add(found.fault);
-		add(CALENDAR_OF(found).count);
-		for (unsigned k = 0; k < CALENDAR_SLOTS; k++)
-			add_slot(&CALENDAR_OF(found).slots[k], &want->slots[k]);
-	}
-	return responses.count;
-}
-
 static unsigned check_fresh(void)
 {
 	Fresh unit;
@@ -1316,9 +1178,6 @@ static const struct measured {
 	{"block-full", make_block_full, count_block, check_block},
 	{"block-fill", make_block_fill, count_block, check_block},
 	{"due-frame", make_none, count_due, check_due},
-	{"calendar-plain", make_calendar_plain, count_calendar, check_calendar},
-	{"calendar-joined", make_calendar_joined, count_calendar, check_calendar},
-	{"calendar-refused", make_calendar_refused, count_calendar, check_calendar},
 	{"fresh", make_none, count_fresh, check_fresh},
 	{"tl-transfer", make_transfer, count_transport, check_transport},
 	{"tl-stored", make_transfer_stored, count_transport, check_transport},

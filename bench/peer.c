@@ -224,38 +224,6 @@ static void probe_layout(const uint8_t *body)
 	printf("frame %d %d\n", due.fault, due.frame);
 }
 
-static void print_slot(const Slot *s)
-{
-	printf(" %d %d %d %d %d", s->from_x, s->frame, s->slot, s->what, s->countdown);
-}
-
-/* A slot after the counted ones that is not 0 makes the line another. */
-static void probe_response(struct input body)
-{
-	Response r;
-	Calendar found;
-
-	r.frame = take_number(&body, 1);
-	r.countdown = take_number(&body, 1);
-	r.answered = take_number(&body, 1);
-	r.count = take_number(&body, 1);
-	r.frames = take_number(&body, 1);
-	r.dn210 = take_number(&body, 1);
-	r.later = take_number(&body, 1);
-	r.slot1 = take_number(&body, 1);
-	r.fragmented = take_number(&body, 1);
-	CALENDAR(found, &r);
-	printf("answer %d %d", found.fault, CALENDAR_OF(found).count);
-	for (unsigned i = 0; i < CALENDAR_SLOTS; i++) {
-		const Slot *s = &CALENDAR_OF(found).slots[i];
-
-		if (i < CALENDAR_OF(found).count || s->from_x || s->frame || s->slot || s->what ||
-		    s->countdown)
-			print_slot(s);
-	}
-	putchar('\n');
-}
-
 static void print_message(const Message *m)
 {
 	printf(" %d %d %" PRIu32 " %" PRIu32 " %d %d %d %d %d %d %d %d %d %" PRIu64, m->kind,
@@ -340,7 +308,7 @@ static void probe_book(Bookings *bookings, struct input body)
 /* Makes one call; 0 if its record is too short. */
 static int call(Fresh *unit, Bookings *bookings, const struct record *record)
 {
-	static const uint8_t fixed[] = {SETTINGS, 0, 0, 0, 5, 35, 2, 0, 3, 13, 35, 0, 17, 9};
+	static const uint8_t fixed[] = {SETTINGS, 0, 0, 0, 5, 35, 2, 0, 3, 13, 35, 0, 17};
 	struct input body = record->body;
 
 	if (body.left > LARGEST_BODY)
@@ -383,9 +351,6 @@ static int call(Fresh *unit, Bookings *bookings, const struct record *record)
 		return 1;
 	case 12:
 		probe_book(bookings, body);
-		return 1;
-	case 13:
-		probe_response(body);
 		return 1;
 	default:
 		puts("kind");

@@ -49,9 +49,6 @@ CASES = [
     Case("block-full", "read block, full", 10, 60, True),
     Case("block-fill", "read block, 254 bits of fill", 10, 60, True),
     Case("due-frame", "frame of a block", 1, 3, False),
-    Case("calendar-plain", "calendar, 5 slots", 10, 60, False),
-    Case("calendar-joined", "calendar, 9 slots", 10, 60, False),
-    Case("calendar-refused", "calendar, refused", 10, 60, False),
     Case("fresh", "fresh receiver", 10, 60, False),
     Case("tl-transfer", "read transfer", 10, 60, True),
     Case("tl-stored", "read transfer, calling party and storage", 10, 60, True),
@@ -80,11 +77,10 @@ IMPLEMENTATIONS = ["library", "plain", "osmo"]
 # Parts of the library: each call, and its name in (a).
 BLOCK_CALLS = {"make_receiver": "fresh", "hear": "hear", "build_blocks": "build", "read_header": "read_header",
                "read_continuation": "read_continuation", "find_due_frame": "layout"}
-RESPONSE_CALLS = {"find_calendar": "calendar"}
 TRANSPORT_CALLS = {"read_transport": "read_transport", "build_transport": "build_transport",
                    "make_bookings": "fresh_bookings", "book": "book"}
 STEP_CALLS = {"take_bits": "take", "skip_bits": "skip", "count_left": "left"}
-CALLS = {**BLOCK_CALLS, **RESPONSE_CALLS, **TRANSPORT_CALLS, **STEP_CALLS}
+CALLS = {**BLOCK_CALLS, **TRANSPORT_CALLS, **STEP_CALLS}
 
 # The goals: the most that the library may take of plain C; less than this of libosmocore; bytes of stack.
 OF_PLAIN = 1.5
@@ -119,7 +115,7 @@ HOW = {
         "Where there is no goal for (b), it touches no bit. The driver holds every answer and every message against the"
         " expected one, and a sum over all answers and all written bytes is the same for all three. Programs over the"
         " three, and over both peers at `-Os`, were held against the second program (`second/`), byte for byte, but for"
-        " the steps over bits, which it does not have: %s. Among the lines is every input in range of a response.",
+        " the steps over bits, which it does not have: %s.",
     "logs":
         "What the reports bring. A log is whole multiframes, slot 1 and slot 3 of each frame in turn, heard again and"
         " again by one receiver; of the refused reports none is accepted. The run is a header in both slots of two"
@@ -128,11 +124,6 @@ HOW = {
         " slots of four frames; with another message between, the headers of two senders come in turn, the one's in"
         " slot 1 and the other's in slot 3 of four frames. The mixed log has short messages, runs and copies, two"
         " senders in turn, messages of others, a block that is not heard, two damaged headers and a damaged block.",
-    "responses":
-        "What the responses bring. Five slots answer a plain message, in three frames of which slot 1 of the first is"
-        " not used; nine answer one that was joined of 15 blocks, in all slots of four frames, with a DMAC-END. There"
-        " are two of each in turn, from other frames on. Those that are refused have each fault, 13 for each number"
-        " that can be wrong.",
     "sdus":
         "What the reads and builds of SDS-TL bring. A transfer has 128 bits of user data, in a DM-SDS DATA; with"
         " storage it has a forward address of SSI and extension. It is lent in 512 bytes, as pierstrand_hear hands it"
@@ -297,8 +288,8 @@ def size_lines(folder, library):
             found.append(sections(kept(folder, name, entries, os.path.join(folder, name + ".o"))))
         return found
 
-    parts = [("the six of blocks and receiver", BLOCK_CALLS), ("the one of responses", RESPONSE_CALLS),
-             ("the four of SDS-TL", TRANSPORT_CALLS), ("the three of steps over bits", STEP_CALLS)]
+    parts = [("the six of blocks and receiver", BLOCK_CALLS), ("the four of SDS-TL", TRANSPORT_CALLS),
+             ("the three of steps over bits", STEP_CALLS)]
     parts += [("`%s`" % name, {name: CALLS[name]}) for name in {**TRANSPORT_CALLS, **STEP_CALLS}]
     of_parts = [[name, *(sum(of) for of in reached(calls, "parts"))] for name, calls in parts]
     sizes = list(zip(["library", "(a) at -O2", "(a) at -Os"], reached(CALLS, "plain")))
@@ -353,8 +344,8 @@ def line_lines():
     lines = table(["crate", "definitions (`specs/`)", "code and contracts (`src/`)", "proofs (`proofs/`)"], rows)
     peers = [("(a): `%s`", ["plain/pierstrand_plain.c", "plain/transport.h"]),
              ("(b): `%s`", ["osmo/pierstrand_osmo.c", "osmo/transport.h"]),
-             ("both: `%s`", ["plain/pierstrand_plain.h", "shared/rules.h", "shared/receiver.h", "shared/responses.h",
-                             "shared/transport.h", "shared/steps.h"])]
+             ("both: `%s`", ["plain/pierstrand_plain.h", "shared/rules.h", "shared/receiver.h", "shared/transport.h",
+                             "shared/steps.h"])]
     rows = [[name % "`, `".join(files), filled(*(os.path.join(tools.HERE, file) for file in files))]
             for name, files in peers]
     return lines + table(["C", "lines"], rows)
@@ -472,9 +463,7 @@ def everything(words):
     kinds = [[case.title, found[case.name]["calls"], *found[case.name]["kinds"]]
              for case in CASES if case.name.startswith("hear")]
     logs = prose(HOW["logs"]) + table(["log", "reports", "silent", "headers", "blocks"], kinds)
-    said = prose(HOW["same"] % compared) + logs
-    for part in ("responses", "sdus", "steps"):
-        said += prose(HOW[part])
+    said = prose(HOW["same"] % compared) + logs + prose(HOW["sdus"]) + prose(HOW["steps"])
     parts = [
         ("Goals", "", goals),
         ("Instructions", HOW["instructions"], counted + said),

@@ -1,9 +1,8 @@
 /*
  * Pierstrand: direct mode blocks of EN 300 396-3. Building and reading them, and a receiver that
- * joins what a unit hears, slot by slot. The slots in which a response to a message goes out. SDS-TL
- * messages of its Annex E, in the message bits that the receiver hands over: reading and building them,
- * and an index by which each transfer is booked once. Steps over lent bits, for what else a board reads
- * in them.
+ * joins what a unit hears, slot by slot. SDS-TL messages of its Annex E, in the message bits that the
+ * receiver hands over: reading and building them, and an index by which each transfer is booked once.
+ * Steps over lent bits, for what else a board reads in them.
  *
  * Link target/staticlib/libboard.a (`rt staticlib board`). It is for x86-64 with the System V calling
  * convention, as on Linux, and uses the SSE registers and the red zone. Of a C library it needs memcpy,
@@ -44,8 +43,6 @@
  *   PIERSTRAND_FAULT_..    enum pierstrand_fault, a field `fault`
  *   PIERSTRAND_OUTCOME_..  enum pierstrand_outcome, what a report came to
  *   PIERSTRAND_KIND_..     enum pierstrand_kind, what a report brings
- *   PIERSTRAND_ANSWERED_.. enum pierstrand_answered, what a response answers
- *   PIERSTRAND_WHAT_..     enum pierstrand_what, what goes out in a slot of a response
  *   PIERSTRAND_SDS_..      enum pierstrand_sds, which SDS-TL message it is
  *   PIERSTRAND_MARK_..     enum pierstrand_mark, what a booking came to
  */
@@ -74,9 +71,6 @@ extern "C" {
    party, 2,047 bits of user defined data 4 and an FCS. */
 #define PIERSTRAND_BYTES_SDU 269
 
-/* Slots of a response at most: its header in both slots of four frames, and a DMAC-END. */
-#define PIERSTRAND_SLOTS 9
-
 /* Pairs that are kept of the last transfers that were booked. */
 #define PIERSTRAND_PAIRS 32
 
@@ -93,15 +87,15 @@ enum pierstrand_fault {
 	PIERSTRAND_FAULT_FRAME = 7,         /* a block's frame number not 1 to 18 */
 	PIERSTRAND_FAULT_ADDRESS_TYPE = 8,  /* a reserved address type */
 	PIERSTRAND_FAULT_MESSAGE_TYPE = 9,  /* message type without entry, or a header above 124 bits */
-	PIERSTRAND_FAULT_SLOT_COUNT = 10,   /* fragmented with slot count 0; response: to such a message */
+	PIERSTRAND_FAULT_SLOT_COUNT = 10,   /* fragmented with slot count 0 */
 	PIERSTRAND_FAULT_FILL = 11,         /* fill told of, no 1 in the DM-SDU's room */
 	PIERSTRAND_FAULT_PDU_TYPE = 12,     /* an SCH/F that is neither DMAC-FRAG nor DMAC-END */
 	PIERSTRAND_FAULT_RANGE = 13,        /* a number too large for its field, an absent one not 0, a width that is
 					       not the elements', or n above the bits lent; user data that is not the
 					       kind's, or too long; book: a source of 2^24 or more; take: more than
-					       56 bits; response: a number of frames that is 0 or above its limit */
+					       56 bits */
 	PIERSTRAND_FAULT_TOO_LONG = 14,     /* more than fifteen continuation blocks */
-	PIERSTRAND_FAULT_REPORT_FRAME = 15, /* report: frame not 1 to 18; response: the frame of what it answers */
+	PIERSTRAND_FAULT_REPORT_FRAME = 15, /* report: frame not 1 to 18 */
 	PIERSTRAND_FAULT_REPORT_SLOT = 16,  /* report: slot not 1 or 3 */
 	PIERSTRAND_FAULT_BUFFER = 17,       /* report: message buffer under 512 bytes */
 	PIERSTRAND_FAULT_PLACE = 18,        /* report: the block's frame or slot is not the report's */
@@ -124,20 +118,6 @@ enum pierstrand_kind {
 	PIERSTRAND_KIND_SILENCE = 1, /* nothing: 0 bytes */
 	PIERSTRAND_KIND_HEADER = 2,  /* SCH/S, then SCH/H: 24 bytes */
 	PIERSTRAND_KIND_BLOCK = 3    /* SCH/F: 34 bytes */
-};
-
-/* What a response answers (8.5.6.2). */
-enum pierstrand_answered {
-	PIERSTRAND_ANSWERED_PLAIN = 0,  /* e): an unfragmented message */
-	PIERSTRAND_ANSWERED_JOINED = 1, /* f): a fragmented message that was joined */
-	PIERSTRAND_ANSWERED_LOST = 2,   /* f): a fragmented DM-SDS DATA that was lost on the way */
-	PIERSTRAND_ANSWERED_CONNECT = 3 /* g): an unfragmented DM-CONNECT, and the response is a DM-CONNECT ACK */
-};
-
-/* What goes out in a slot of a response. */
-enum pierstrand_what {
-	PIERSTRAND_WHAT_HEADER = 1, /* its header: a DMAC-SYNC, SCH/S with SCH/H */
-	PIERSTRAND_WHAT_END = 2     /* its one continuation block: a DMAC-END, SCH/F */
 };
 
 /* The four SDS-TL messages. */
@@ -210,37 +190,6 @@ struct pierstrand_block_count {
 struct pierstrand_due_frame {
 	uint8_t fault; /* enum pierstrand_fault */
 	uint8_t frame; /* 1 to 17; 0 where it was refused */
-};
-
-/* A response, before it is sent. */
-struct pierstrand_response {
-	/* Of the message that it answers: */
-	uint8_t frame;      /* X, 1 to 18: the frame in which a header of it was heard, whichever of its repeats */
-	uint8_t countdown;  /* F, 0 to 3: the countdown in that header */
-	uint8_t answered;   /* enum pierstrand_answered */
-	uint8_t count;      /* its number of SCH/F slots, 1 to 15 where it was fragmented; otherwise any up to 15 */
-	/* Of the response: */
-	uint8_t frames;     /* in how many frames its header goes out: 1 to `dn210`; LOST: 1; CONNECT: 1 to 4 */
-	uint8_t dn210;      /* the unit's DN210 (A.4), 1 to 4; with LOST and CONNECT it is not looked at */
-	uint8_t later;      /* 0 no, else yes: it starts a frame later. With CONNECT alone it is looked at */
-	uint8_t slot1;      /* 0 no, else yes: slot 1 of its first frame is used, and not only slot 3 */
-	uint8_t fragmented; /* 0 no, else yes: a DMAC-END follows its header. With LOST it is not looked at */
-};
-
-/* A slot of a response. */
-struct pierstrand_slot {
-	uint8_t from_x;    /* its frame, counted from X: 1 is the frame after X */
-	uint8_t frame;     /* that frame's number, 1 to 18 */
-	uint8_t slot;      /* 1 or 3: its number, not its code */
-	uint8_t what;      /* enum pierstrand_what */
-	uint8_t countdown; /* of a header: in how many more frames it comes again; of a DMAC-END 0 */
-};
-
-/* The slots of a response, in order. Those after the first `count` are 0. */
-struct pierstrand_calendar {
-	uint8_t fault; /* enum pierstrand_fault */
-	uint8_t count; /* 1 to 9; 0 where it was refused */
-	struct pierstrand_slot slots[PIERSTRAND_SLOTS];
 };
 
 /* A message of DM-SDS DATA or DM-SDS ACK that was coming in and is lost. All 0 where there is none. */
@@ -431,32 +380,6 @@ struct pierstrand_continuation pierstrand_read_continuation(const uint8_t *sch_f
  * Refused in this order: 7, 13 (countdown above 3), 14 (block above 14).
  */
 struct pierstrand_due_frame pierstrand_find_due_frame(uint8_t frame, uint8_t countdown, uint8_t block);
-
-/*
- * The slots in which a response to a message goes out (8.5.6.2 e to g), counted in frames from the one in
- * which a header of that message was heard: so that it neither starts while the header is still repeated
- * nor falls into a slot of the message's blocks.
- *
- * It starts in the frame after the last one of the message: of its header's repeats, or, where it was
- * fragmented, of its DMAC-END, which is where the slot count puts it, heard or not. DM-CONNECT ACK may start
- * in the frame after that. In the first frame the header goes out in slot 3, and in slot 1 if that is used; in
- * each later one in slots 1 and 3, frame 18 too, and the countdown falls to 0. A DMAC-END goes out once, in
- * slot 1 of the next frame that is not 18, which is where a receiver of the header waits for it.
- *
- * Each header is a build of its own, with that slot, frame and countdown; the DMAC-END is the one
- * continuation block of each of them, so that `fragmented` is whether a build gives one.
- *
- * This is the caller's to mind:
- *   - that 8.4.5.1 wants some responses in more than one frame where slot 1 of the first is not used: a DM-SDS
- *     ACK (8.4.5.1.14), and a DM-CONNECT ACK, which needs slots 1 and 3 of one frame at least (8.4.5.1.5);
- *   - after a lost message, that a unit which hears a DM-PRE ACCEPT, DM-SETUP, DM-SETUP PRES, DM-SDS DATA or
- *     DM-SDS UDATA before it answers does not answer (8.5.6.2 f);
- *   - that a response has at most one continuation block.
- *
- * Refused in this order: 15 (`frame`), 13 (`countdown`, `answered`, `count`, `dn210` where it is the limit,
- * `frames`), 10 (`count` 0 with JOINED and LOST).
- */
-struct pierstrand_calendar pierstrand_find_calendar(struct pierstrand_response response);
 
 /*
  * Reads an SDS-TL message from the first n bits of a DM-SDU: of the bits that pierstrand_hear handed over

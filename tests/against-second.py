@@ -3,12 +3,11 @@
 byte for byte.
 
 against-second.py                  from fresh seeds, some 90,000 calls of every kind, some 200,000 settings and reports,
-                                   mutated runs of slots, some 60,000 transport messages, read, built and booked, and
-                                   some 20,000 responses; and the sheet of responses, every input in range
-against-second.py --seeds A,B,..   the calls, the reports, the transport messages and the responses of these seeds again
+                                   mutated runs of slots, and some 60,000 transport messages, read, built and booked
+against-second.py --seeds A,B,..   the calls, the reports and the transport messages of these seeds again
 
-Where they differ it names the sort and the seed, or the sheet, the record's number in what `second make SORT SEED`, or
-`second answers`, writes, and both lines.
+Where they differ it names the sort and the seed, the record's number in what `second make SORT SEED` writes, and both
+lines.
 """
 import itertools
 import os
@@ -17,12 +16,10 @@ import sys
 import second
 
 # What `second make` makes, and how many records of it are tried.
-MADE = {"calls": 90000, "reports": 200000, "transport": 60000, "answers": 20000}
+MADE = {"calls": 90000, "reports": 200000, "transport": 60000}
 # So many inputs the records of each sort are joined into. Each ends in a record that prints `cut`, if a seed had one,
 # and one after it that is not read.
 INPUTS = 12
-# So many inputs the sheet is cut into.
-PARTS = 4
 # The receiver and the bookings are what a program starts with: so a seed's answers do not hang on what stands before
 # it.
 START = [second.record(0, bytes(12)), second.record(11, b"")]
@@ -34,18 +31,17 @@ def fresh_seeds():
 
 
 def made(sort, seed):
-    """The records of a seed, (whose, number, record) each: those that can stand anywhere, and those from one that
+    """The records of a seed, (sort, seed, number, record) each: those that can stand anywhere, and those from one that
     prints `cut` on."""
     calls = second.records(second.run("make", sort, str(seed)))
-    whose = "%s of seed %d" % (sort, seed)
-    numbered = [(whose, number, call) for number, call in enumerate(START + calls, 1 - len(START))]
+    numbered = [(sort, seed, number, call) for number, call in enumerate(START + calls, 1 - len(START))]
     answers = second.lines(second.run("probe", given=joined(numbered)))
     whole = len(answers) - answers[-1:].count("cut")
     return numbered[:whole], numbered[whole:whole + 2]
 
 
 def joined(calls):
-    return b"".join(call for _, _, call in calls)
+    return b"".join(call for _, _, _, call in calls)
 
 
 def inputs(sort, seeds, most):
@@ -62,38 +58,18 @@ def inputs(sort, seeds, most):
     return [whole + cut for whole, cut in found if whole or cut]
 
 
-def parts(sheet):
-    """The sheet cut into few inputs of whole records, each with the number of its first record."""
-    starts, at = [], 0
-    while at < len(sheet):
-        starts.append(at)
-        at += 2 + int.from_bytes(sheet[at:at + 2], "little")
-    size = -(-len(starts) // PARTS)
-    starts.append(at)
-    for first in range(0, len(starts) - 1, size):
-        yield first + 1, sheet[starts[first]:starts[min(first + size, len(starts) - 1)]]
-
-
-def compare(given, calls):
-    """How many lines the two programs print alike of these records; stops where they do not. Only then are the records
-    asked for one by one, (whose, number, record) each."""
+def compare(calls):
+    """How many lines the two programs print alike of these records; stops where they do not."""
+    given = joined(calls)
     ours, theirs = second.run_probe(given), second.run("probe", given=given)
     if ours == theirs:
-        return ours.count(b"\n")
-    for call, a, b in itertools.zip_longest(calls(), second.lines(ours), second.lines(theirs)):
+        return len(second.lines(ours))
+    for call, a, b in itertools.zip_longest(calls, second.lines(ours), second.lines(theirs)):
         if a != b or call is None:
-            where = "%s, record %d (%s)" % (call[0], call[1], call[2][:80].hex()) if call else "no record"
+            sort, seed, number, record = call or ("-", "-", 0, b"")
+            where = "%s of seed %s, record %d (%s)" % (sort, seed, number, record[:80].hex())
             sys.exit("against-second: %s\n  probe:  %s\n  second: %s" % (where, a, b))
     sys.exit("against-second: the lines are the same and their ends are not")
-
-
-def compare_made(calls):
-    return compare(joined(calls), lambda: calls)
-
-
-def compare_part(first, part):
-    whose = "the sheet of responses"
-    return compare(part, lambda: [(whose, number, call) for number, call in enumerate(second.records(part), first)])
 
 
 def main():
@@ -102,13 +78,9 @@ def main():
         sys.exit(__doc__)
     second.build()
     seeds = [int(word) for word in words[1].split(",")] if words else None
-    agreed = [compare_made(calls) for sort, most in MADE.items()
+    agreed = [compare(calls) for sort, most in MADE.items()
               for calls in inputs(sort, seeds or fresh_seeds(), 0 if words else most)]
-    of_sheet = [] if words else [compare_part(first, part) for first, part in parts(second.run("answers"))]
-    count = "%d calls" % sum(agreed + of_sheet)
-    if of_sheet:
-        count += ", %d of them the sheet of responses" % sum(of_sheet)
-    print("against-second: %s, in %d inputs, and the two programs print the same" % (count, len(agreed + of_sheet)))
+    print("against-second: %d calls, in %d inputs, and the two programs print the same" % (sum(agreed), len(agreed)))
 
 
 if __name__ == "__main__":

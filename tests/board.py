@@ -1,15 +1,16 @@
 #!/usr/bin/env python3
-"""The library for C: include/pierstrand.h and target/staticlib/libboard.a, held to each other, and the example over
+"""The library for C: include/pierstrand.h and crates/board/out/libboard.a, held to each other, and the example over
 them.
 
 board.py              write examples/board.txt and tests/layout.txt, what the two C programs print
 board.py --check      exit 1, and say what differs, where they print something else or the header is not the library's
 board.py --example    build and run examples/board.c: behind examples/run
 
-The library is proved and built by `rt staticlib board`. The compiler is the kit's clang, with the headers of
+The library is proved and built by `rt lib` in crates/board. The compiler is the kit's clang, with the headers of
 tests/c99/. What is held:
-- the functions of the header take and answer what those of crates/board do, and the library needs no more of a C
-  library than the header says; no two names of the header are the same;
+- the functions of the header take and answer what those of crates/board do, but for one that the header does not have
+  yet (NOT_YET), and the library needs no more of a C library than the header says; no two names of the header are the
+  same;
 - the sizes, alignments and fields that a C compiler gives the structs of the header (tests/layout.c prints them) are
   those that C's rule gives the #[repr(C)] structs of the crates;
 - the library reads and writes each field where the header has it, and each number of the header is the library's:
@@ -23,7 +24,6 @@ Another C compiler for x86-64, where there is one, compiles both programs with i
 The header is read as C++ by the kit's clang, and by another compiler where there is one.
 """
 import os
-import platform
 import random
 import re
 import resource
@@ -36,7 +36,8 @@ import image
 
 TOP = os.path.normpath(os.path.join(os.path.dirname(os.path.abspath(__file__)), ".."))
 HEADER = os.path.join(TOP, "include", "pierstrand.h")
-LIBRARY = os.path.join(TOP, "target", "staticlib", "libboard.a")
+CRATE = os.path.join(TOP, "crates", "board")
+LIBRARY = os.path.join(CRATE, "out", "libboard.a")
 OBJECTS = os.path.join(TOP, "target", "board")
 PROGRAMS = os.path.join(TOP, "target", "bin")  # where run-program looks; ours are called c-..
 EXAMPLE, LAYOUT = os.path.join("examples", "board"), os.path.join("tests", "layout")  # each has a .c and a .txt
@@ -44,6 +45,7 @@ STEPS = os.path.join("tests", "steps")
 WARNINGS = ["-Wall", "-Wextra", "-pedantic", "-Werror"]
 OF_C = {"memcpy", "memmove", "memset", "memcmp"}  # what the header says that the library needs
 CALLED = "bits::last_one"  # what is not to be copied into its callers
+NOT_YET = {"pierstrand_find_calendar"}  # what crates/board has and the header does not: see docs/PORT.md
 
 
 def fail(what):
@@ -75,7 +77,8 @@ OTHER_NAMES = {("Message", "short"): "short_form", ("Lost", "message"): "message
 
 def sources():
     yield os.path.join(TOP, "crates.txt")
-    for folder, _, names in os.walk(os.path.join(TOP, "crates")):
+    for folder, folders, names in os.walk(os.path.join(TOP, "crates")):
+        folders[:] = sorted(name for name in folders if name != "out")
         for name in names:
             yield os.path.join(folder, name)
 
@@ -85,7 +88,7 @@ def structs():
     found = {}
     for path in sources():
         if path.endswith(".rt"):
-            for name, body in re.findall(r"#\[repr\(C\)\]\npub struct (\w+) \{\n(.*?)\n\}", read(path), re.S):
+            for name, body in re.findall(r"#\[repr\(C\)\]\n(?:#\[.*\]\n)*pub struct (\w+) \{\n(.*?)\n\}", read(path), re.S):
                 if name in found:
                     fail("two structs for C are called " + name)
                 found[name] = re.findall(r"^    pub (\w+): (.+),$", body, re.M)
@@ -134,7 +137,7 @@ def exported():
     source = read("crates", "board", "src", "lib.rt")
     functions = re.findall(r'^pub extern "C" fn (\w+)\((.*?)\) -> (\w+)$', source, re.M | re.S)
     return {"%s %s(%s)" % (in_c(answer), name, ", ".join(in_c(of) for of in re.findall(r"\w+: ([^,]+)", given)))
-            for name, given, answer in functions}
+            for name, given, answer in functions if name not in NOT_YET}
 
 
 def declared(header):
@@ -156,15 +159,14 @@ def kit(*path):
     rt = shutil.which("rt")
     if not rt:
         fail("no 'rt' on the PATH: it is the prover and compiler of the Rattle kit (its folder bin/)")
-    home = os.environ.get("RATTLE_HOME") or os.path.dirname(os.path.dirname(os.path.realpath(rt)))
-    return os.path.join(home, "on", platform.machine(), *path)
+    return os.path.join(os.path.dirname(os.path.dirname(os.path.realpath(rt))), *path)
 
 
 def build_library():
     kit()
-    ended = ran(["rt", "staticlib", "board"], cwd=TOP)
+    ended = ran(["rt", "lib"], cwd=CRATE)
     if ended.returncode or not os.path.isfile(LIBRARY):
-        fail("'rt staticlib board' did not prove and build the library (status %d)\n%s" % (
+        fail("'rt lib' in crates/board did not prove and build the library (status %d)\n%s" % (
             ended.returncode, ended.stdout))
 
 
@@ -367,7 +369,7 @@ def main():
     resource.setrlimit(resource.RLIMIT_CORE, (0, 0))  # with an altered header the test may well crash
     if sys.argv[1:] == ["--example"]:
         if not newest(LIBRARY):
-            print("run: proving and building the library first (rt staticlib board): some minutes the first time,"
+            print("run: proving and building the library first (rt lib in crates/board): some minutes the first time,"
                   " seconds after that", file=sys.stderr)
             build_library()
         sys.stdout.write(printed(EXAMPLE, "clang"))

@@ -6,8 +6,7 @@ probe_stored.py --check    exit 1, and say what differs, where a stored file is 
 
 The records are the second program's sheet of reads and layouts, all of it; of its sheet of builds those that show
 something which none before them showed; the histories of slot reports of histories.py, whose lines the second program
-has to agree with; its sheet of transport messages and bookings, all of it; of its sheet of responses again those that
-show something new; and some that try the framing.
+has to agree with; its sheet of transport messages and bookings, all of it; and some that try the framing.
 """
 import itertools
 import os
@@ -17,8 +16,6 @@ import histories
 import second
 
 HERE = os.path.join(second.TOP, "crates", "probe")
-# Values of a response's numbers just outside their ranges, and the largest.
-EDGES = (0, 4, 5, 16, 19, 255)
 NARROW = {"usage": 3, "slot": 3, "countdown": 3, "to_type": 3, "from_type": 3, "message": 31}
 
 
@@ -60,59 +57,6 @@ def some_builds():
             yield given
 
 
-def refused_shows(numbers, fault):
-    """What a response that is refused shows: which of its numbers are wrong, one or two; of one by itself the case, and
-    the value at an edge; of frames how far they are from their limit."""
-    x, f, case, count, frames, dn210 = numbers[:6]
-    limit = {0: dn210, 1: dn210, 2: 1}.get(case, 4)
-    causes = (("X", x, not 1 <= x <= 18), ("F", f, f > 3), ("case", case, case > 3), ("count", count, count > 15),
-              ("none", count, count == 0 and case in (1, 2)), ("frames", frames, not 1 <= frames <= limit),
-              ("DN210", dn210, not 1 <= dn210 <= 4 and case in (0, 1)))
-    wrong = [(name, value) for name, value, is_so in causes if is_so]
-    facts = {("refused", fault, tuple(name for name, _ in wrong))} if len(wrong) < 3 else set()
-    if len(wrong) == 1:
-        name, value = wrong[0]
-        facts.add(("by itself", fault, name, min(case, 4)))
-        facts.add(("edge", fault, name, value if value in EDGES else None))
-        if name == "frames" and value in (0, limit + 1):
-            facts.add(("limit", value, limit, case))
-    return facts
-
-
-def taken_shows(numbers, told):
-    """What a response that is laid out shows: its numbers in each case, and where frame 18 lies, among the answered
-    message's headers, among its blocks, among the response's headers, before its END. Five numbers are told of each
-    slot."""
-    x, f, case, count, frames, dn210, *flags = numbers
-    first_from_x, first = told[:2]
-    facts = {("X and F", x, f), ("F", f, case), ("first", first, case), ("slots", len(told) // 5, case)}
-    facts |= {("frames", frames, min(dn210, 5), case), ("flags", frames, *map(bool, flags), case)}
-    facts |= {("flag", which, flag) for which, flag in enumerate(flags) if flag in (2, 255)}
-    if x + f > 17:
-        facts.add(("18 among the repeats", 18 - x, f, case))
-    if case in (1, 2):
-        passed = first_from_x - f - 1 > count
-        facts |= {("count", count, case), ("18 among the blocks", (17 - x - f) % 18 if passed else None, case)}
-    elif count in (0, 15):
-        facts.add(("count", count, case))
-    if first + frames > 18:
-        facts.add(("18 among the headers", 18 - first, frames, case))
-    if told[-2] == 2:
-        facts.add(("END", told[-5] - told[-10], frames, case))
-    return facts
-
-
-def some_answers():
-    sheet = second.run("answers")
-    seen = set()
-    for given, line in zip(second.records(sheet), second.lines(second.run("probe", given=sheet))):
-        fault, _, *told = map(int, line.split()[1:])
-        facts = refused_shows(given[4:], fault) if fault else taken_shows(given[4:], told)
-        if not facts <= seen:
-            seen |= facts
-            yield given
-
-
 def some_histories():
     calls = histories.calls()
     answers = second.lines(second.run("probe", given=b"".join(given for given, _ in calls)))
@@ -128,10 +72,9 @@ def framing():
     cut, and one more."""
     fields = dict(system=12, usage=1, slot=0, frame=7, countdown=2, to_type=0, to=1, from_type=0, source=2, mni=3,
                   message=11, width=0, elements=0)
-    for kind in (0x0100, 0x0104, 0x0105, 0x0109, 0x010B, 0x010D, 0x0400, 0x0800, 0x0B00, 0x0D00, 0xFFFF, 1, 2, 3, 14):
+    for kind in (0x0100, 0x0104, 0x0105, 0x0109, 0x010B, 0x0400, 0x0800, 0x0B00, 0xFFFF, 1, 2, 3, 13):
         yield second.record(kind, [17, 0, 0])
-    yield second.record(14, b"")
-    yield second.record(13, [17, 0, 0, 0, 1, 1, 0, 0, 1, 255])
+    yield second.record(13, b"")
     yield second.record(8, [17, 0, 0, 255])
     yield second.record(6, [0, 0, 255])
     yield second.record(7, b"")
@@ -147,8 +90,8 @@ def framing():
 
 
 def made():
-    sheets = [second.run("blocks")], some_builds(), some_histories(), [second.run("transports")], some_answers()
-    given = b"".join(itertools.chain(*sheets, framing()))
+    sheets = [second.run("blocks")], some_builds(), some_histories(), [second.run("transports")], framing()
+    given = b"".join(itertools.chain(*sheets))
     return given, second.run("probe", given=given)
 
 

@@ -326,6 +326,5 @@ uint8_t dm_take(const uint8_t *lent, size_t length, size_t at, size_t n, struct 
 }
 
 #include "../shared/receiver.h"
-#include "../shared/responses.h"
 #include "../shared/steps.h"
 #include "transport.h"

@@ -1,7 +1,7 @@
 /*
- * Direct mode blocks of EN 300 396-3: reading, building, and a receiver of slot reports. The slots
- * of a response. SDS-TL messages: reading, building, and an index of what was booked. Steps over
- * lent bits. The calls of the proved library, in plain C. Both peers have them.
+ * Direct mode blocks of EN 300 396-3: reading, building, and a receiver of slot reports. SDS-TL
+ * messages: reading, building, and an index of what was booked. Steps over lent bits.
+ * The calls of the proved library, in plain C. Both peers have them.
  *
  * Bits are packed eight to a byte, first bit highest. Faults and outcomes are numbers:
  * 0 is no fault. A call that is refused gives 0 for everything else and writes nothing; a step gives
@@ -32,10 +32,9 @@ enum dm_fault {
 	DM_COUNT = 10,        /* fragmented with slot count 0 */
 	DM_FILL = 11,         /* fill told of, no 1 in the room */
 	DM_PDU_TYPE = 12,     /* an SCH/F that is neither FRAG nor END */
-	DM_RANGE = 13,        /* a number too large for its field, or an absent one not 0; response:
-				 a number of frames that is 0 or above its limit */
+	DM_RANGE = 13,        /* a number too large for its field, or an absent one not 0 */
 	DM_BLOCKS = 14,       /* more than 15 continuation blocks */
-	DM_REPORT_FRAME = 15, /* report, response: frame not 1 to 18 */
+	DM_REPORT_FRAME = 15, /* report: frame not 1 to 18 */
 	DM_REPORT_SLOT = 16,  /* report: slot not 1 or 3 */
 	DM_BUFFER = 17,       /* report: message buffer under 512 bytes */
 	DM_PLACE = 18,        /* report: the block's frame or slot is not the report's */
@@ -57,20 +56,6 @@ enum dm_kind {
 	DM_KIND_NOTHING = 1,
 	DM_KIND_HEADER = 2, /* SCH/S, then SCH/H: 24 bytes */
 	DM_KIND_BLOCK = 3   /* SCH/F: 34 bytes */
-};
-
-/* What a response answers (8.5.6.2). */
-enum dm_answered {
-	DM_ANSWERED_PLAIN = 0,
-	DM_ANSWERED_JOINED = 1,
-	DM_ANSWERED_LOST = 2,   /* a fragmented DM-SDS DATA */
-	DM_ANSWERED_CONNECT = 3 /* DM-CONNECT, with a DM-CONNECT ACK */
-};
-
-/* What goes out in a slot of a response. */
-enum dm_what {
-	DM_WHAT_HEADER = 1, /* SCH/S and SCH/H */
-	DM_WHAT_END = 2     /* DMAC-END */
 };
 
 /* The four SDS-TL messages. */
@@ -185,36 +170,6 @@ struct dm_receiver {
 	uint8_t store[DM_STORE];
 };
 
-/* A response, before it is sent. The last three are 0 for no, else yes. */
-struct dm_response {
-	uint8_t frame;      /* in which a header of the message that it answers was heard */
-	uint8_t countdown;  /* in that header */
-	uint8_t answered;
-	uint8_t count;      /* SCH/F slots of the message that it answers */
-	uint8_t frames;     /* in how many its header goes out */
-	uint8_t dn210;      /* the unit's (A.4) */
-	uint8_t later;      /* DM-CONNECT ACK: it starts a frame later */
-	uint8_t slot1;      /* slot 1 of its first frame is used */
-	uint8_t fragmented; /* a DMAC-END follows its header */
-};
-
-struct dm_slot {
-	uint8_t from_x;    /* its frame, counted from the one of the header that was heard */
-	uint8_t frame;
-	uint8_t slot;
-	uint8_t what;
-	uint8_t countdown; /* of a header */
-};
-
-/* The slots of a response: a header in both slots of four frames at most, and a DMAC-END. Those
-   that are not used are 0. */
-#define DM_SLOTS 9
-
-struct dm_calendar {
-	uint8_t count;
-	struct dm_slot slots[DM_SLOTS];
-};
-
 /* An SDS-TL message's elements; 0 where the message does not have one. */
 struct dm_message {
 	uint64_t address; /* forward address: SSI, or SSI * 2^24 + extension */
@@ -280,9 +235,6 @@ uint8_t dm_read_continuation(const uint8_t *sch_f, size_t length, struct dm_bloc
 
 /* The frame of continuation block i, from 0, for a header in frame x with countdown f. */
 uint8_t dm_layout(uint8_t x, uint8_t f, uint8_t i, uint8_t *frame);
-
-/* The slots in which a response goes out. */
-uint8_t dm_calendar(const struct dm_response *response, struct dm_calendar *calendar);
 
 /* Reads the first `n` bits of a DM-SDU of `length` bytes that came with these fields. */
 uint8_t dm_read_transport(const struct dm_fields *fields, uint32_t n, const uint8_t *sdu,

@@ -1,6 +1,5 @@
 //! probe: every call, tried from a file of call records.
 
-use crate::answering::{Asked, Sent};
 use crate::bits::pack;
 use crate::blocks::{build, read_continuation, read_header, Fields, HEADER_BYTES, SCH_F_BYTES};
 use crate::bookings::Bookings;
@@ -57,7 +56,6 @@ fn call(kept: &mut Kept, kind: u16, body: &[u8]) -> Option<String> {
         10 => sdu(&mut body),
         11 => Some(fresh_bookings(&mut kept.bookings)),
         12 => book(&mut kept.bookings, &mut body),
-        13 => answer(&mut body),
         _ => Some("kind".to_string()),
     }
 }
@@ -271,45 +269,6 @@ fn book(bookings: &mut Bookings, body: &mut Body) -> Option<String> {
         Err(fault) => refusal(fault, 4),
     };
     Some(format!("book {}", decimals(&numbers)))
-}
-
-/// The count of the response's slots, and five numbers for each.
-fn answer(body: &mut Body) -> Option<String> {
-    let numbers = match take_asked(body)?.calendar() {
-        Ok(calendar) => {
-            let start = [0, calendar.len() as u64];
-            let slots = calendar.iter().flat_map(slot_numbers);
-            start.into_iter().chain(slots).collect()
-        }
-        Err(fault) => refusal(fault, 2),
-    };
-    Some(format!("answer {}", decimals(&numbers)))
-}
-
-fn take_asked(body: &mut Body) -> Option<Asked> {
-    Some(Asked {
-        x: body.byte()?,
-        f: body.byte()?,
-        case: body.byte()?,
-        count: body.byte()?,
-        frames: body.byte()?,
-        dn210: body.byte()?,
-        later: body.byte()? != 0,
-        slot_1: body.byte()? != 0,
-        fragmented: body.byte()? != 0,
-    })
-}
-
-/// Frames from X, frame, slot, what and countdown.
-fn slot_numbers(sent: &Sent) -> [u64; 5] {
-    let slot = &sent.slot;
-    [
-        slot.from_x.into(),
-        slot.frame.into(),
-        slot.slot.into(),
-        sent.what.into(),
-        sent.countdown.into(),
-    ]
 }
 
 /// Addresses and their types, MNI, message type, width and elements.
@@ -546,31 +505,10 @@ mod tests {
     }
 
     #[test]
-    fn answers() {
-        let answer = |body: &[u8]| probed(&[record(13, body)]);
-        let line = "answer 0 4 2 16 3 1 1 3 17 1 1 0 3 17 3 1 0 5 1 1 2 0\n";
-        assert_eq!(answer(&[14, 1, 0, 7, 2, 3, 1, 0, 1]), line);
-        assert_eq!(answer(&[14, 1, 0, 7, 2, 3, 1, 0, 255, 9, 9]), line);
-        // Lost: one frame, the header's alone, in both slots.
-        let line = "answer 0 2 5 10 1 1 0 5 10 3 1 0\n";
-        assert_eq!(answer(&[5, 1, 2, 3, 1, 0, 0, 128, 1]), line);
-        // A DM-CONNECT ACK a frame later.
-        let line = "answer 0 1 2 5 3 1 0\n";
-        assert_eq!(answer(&[3, 0, 3, 15, 1, 9, 2, 0, 0]), line);
-        for (body, fault) in [
-            ([19, 4, 1, 0, 1, 1, 0, 0, 0], 15),
-            ([18, 4, 1, 0, 1, 1, 0, 0, 0], 13),
-            ([18, 3, 1, 0, 1, 1, 0, 0, 0], 10),
-        ] {
-            assert_eq!(answer(&body), format!("answer {fault} 0\n"));
-        }
-    }
-
-    #[test]
     fn words() {
         let frame = record(8, &[17, 0, 0]);
         let with = |record: Vec<u8>| probed(&[record, frame.clone()]);
-        assert_eq!(with(record(14, &[])), "kind\nframe 0 1\n");
+        assert_eq!(with(record(13, &[])), "kind\nframe 0 1\n");
         assert_eq!(with(record(1, &[5, 1])), "kind\nframe 0 1\n");
         assert_eq!(with(record(4, &[1, 1, 1, 1, 4])), "kind\nframe 0 1\n");
         assert_eq!(with(record(7, &[0; 4_096])), "block 1 0 0 0\nframe 0 1\n");
@@ -588,11 +526,6 @@ mod tests {
         assert_eq!(with(record(11, &[0; 4_097])), "cut\n");
         assert_eq!(with(record(12, &[0; 16])), "cut\n");
         assert_eq!(with(record(12, &[0; 17])), "book 21 0 0 0\nframe 0 1\n");
-        assert_eq!(with(record(13, &[])), "cut\n");
-        assert_eq!(with(record(13, &[0; 8])), "cut\n");
-        assert_eq!(with(record(13, &[0; 9])), "answer 15 0\nframe 0 1\n");
-        assert_eq!(with(record(13, &[0; 4_096])), "answer 15 0\nframe 0 1\n");
-        assert_eq!(with(record(13, &[0; 4_097])), "cut\n");
         assert_eq!(with(vec![1, 0, 0]), "cut\n");
     }
 }

@@ -13,7 +13,7 @@ use blocks::fault::Fault;
 use blocks::slots::{frame_number, frames_to};
 
 // What a response answers.
-#[derive(Drop)]
+#[derive(Clone, Copy)]
 pub struct Answered {}
 
 impl Answered {
@@ -31,7 +31,7 @@ impl Answered {
 }
 
 // What goes out in a slot of a response.
-#[derive(Drop)]
+#[derive(Clone, Copy)]
 pub struct What {}
 
 impl What {
@@ -72,7 +72,7 @@ pub struct Slot {
 
 // The slots of a response, in order, `count` of them; the others are zero. Refused, all but the fault is 0.
 #[repr(C)]
-#[derive(Drop)]
+#[derive(Clone, Copy)]
 pub struct Calendar {
     pub fault: u8,
     pub count: u8,

@@ -1,5 +1,7 @@
 // The board's library: each public call under a name for C (include/pierstrand.h). What a call promises is what the
 // Rattle function that it calls promises.
+#![tactic(auto)]
+
 ghost use Rattle.std.specs.Prelude.{◌≡◌, length};
 ghost use Rattle.answering.specs.Calendar.{calendar_of};
 ghost use Rattle.blocks.specs.Continuation.{read_continuation};

@@ -18,7 +18,7 @@ mod plan;
 
 // What a build answers: its fault, or the number of continuation blocks.
 #[repr(C)]
-#[derive(Drop)]
+#[derive(Clone, Copy)]
 pub struct Built {
     pub fault: u8,
     pub blocks: u8,

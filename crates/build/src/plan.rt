@@ -93,7 +93,7 @@ fn fits_header(h: usize, n: usize) -> bool
 
 // How a message is cut: the fragmentation flag, the bits that the header takes, the number of continuation blocks; or
 // the fault.
-#[derive(Drop)]
+#[derive(Clone, Copy)]
 pub struct Plan {
     pub fault: u8,
     pub fragmented: u8,

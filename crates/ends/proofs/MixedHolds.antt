@@ -14,7 +14,7 @@ use Rattle.history.specs.declared.Place.{Place}
 use Rattle.history.proofs.Theorems.{theorem_single}
 use Rattle.history.proofs.Lines.{⧺-assoc, start-⧺, never, both, never_in, each-⧺}
 use Rattle.history.proofs.OnceHolds.{theorem_again, theorem_original}
-use Rattle.reports.specs.Lent.{Lent, heard}
+use Rattle.reports.specs.Lent.{Lent}
 use Rattle.reports.specs.declared.unit.Settings.{Settings}
 use Rattle.receiver.specs.Reached.{report_of, reports}
 use Rattle.ends.specs.Sent.{in_slot}

@@ -16,7 +16,7 @@ use Rattle.answering.specs.declared.Slot.{Slot}
 use Rattle.demands.specs.Calls.{HearCall, Series}
 use Rattle.demands.specs.Req06.{place_of, slots_gone}
 use Rattle.ends.specs.EndToEnd.{Message, bits, k, Build, header_slot, header_lent, block_lent, nothing_lent, Sent}
-use Rattle.ends.specs.EndToEnd.{Handed, header_report}
+use Rattle.ends.specs.EndToEnd.{header_report}
 use Rattle.ends.specs.Delivered.{handed_by, sent_lent}
 
 -- A build of the response for a slot of its calendar: for this frame and this slot, with this countdown.

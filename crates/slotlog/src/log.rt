@@ -11,7 +11,7 @@ use receiver::Receiver;
 use records::{four, two};
 
 // The kinds of a log's records.
-#[derive(Drop)]
+#[derive(Clone, Copy)]
 pub(crate) struct Kind {}
 
 impl Kind {
@@ -30,7 +30,7 @@ impl Kind {
 
 // What stands next, with the bytes that it takes: nothing; a record that runs past what is there; one that is cut
 // whatever follows; another one; a report.
-#[derive(Drop)]
+#[derive(Clone, Copy)]
 pub(crate) enum Next {
     End,
     Part,
@@ -110,7 +110,7 @@ pub(crate) fn read(rest: &[u8]) -> Next
 pub const FIRST: usize = 16;
 
 // How a log starts: 0 or 13, the bytes that its first record takes, and the receiver.
-#[derive(Drop)]
+#[derive(Clone, Copy)]
 pub struct Begun {
     pub fault: u8,
     pub took: usize,

@@ -12,7 +12,7 @@ use receiver::{Receiver, Reply};
 
 // What is shown of a reply: of a report its frame, its slot and the receiver's answer; another record; one that is cut.
 // Where no whole record is there, more of the log is wanted.
-#[derive(Drop)]
+#[derive(Clone, Copy)]
 pub(crate) enum Shown {
     Report(u8, u8, Answer),
     Other,
@@ -21,7 +21,7 @@ pub(crate) enum Shown {
 }
 
 // The receiver after the next record, the bytes that the record takes, and what is shown of its reply.
-#[derive(Drop)]
+#[derive(Clone, Copy)]
 pub(crate) struct NextReply {
     pub receiver: Receiver,
     pub took: usize,

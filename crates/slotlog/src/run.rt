@@ -11,7 +11,7 @@ use bits::least;
 use receiver::Receiver;
 
 // The receiver now, how many bytes of the log were read and how many of the output were written, and a state.
-#[derive(Drop)]
+#[derive(Clone, Copy)]
 pub struct Run {
     pub receiver: Receiver,
     pub read: usize,

@@ -3,7 +3,6 @@
 use super::logs::{episodes, Slot};
 use super::parts::{damage_continuation, draw_continuation, draw_fields, lengths, record};
 use super::parts::{set_types, Message, Raw, Unit, HEADER_FAULTS, UNLISTED};
-use super::responses::draw_response;
 use super::rng::Rng;
 use super::transports::any_call;
 use crate::blocks::{build, header_bits, Fields, HEADER_BYTES, SCH_F_BYTES, SCH_S_BYTES};
@@ -95,14 +94,13 @@ pub fn reports(seed: u64) -> Vec<u8> {
 }
 
 fn some_calls(rng: &mut Rng, unit: &mut Unit, records: &mut Vec<Vec<u8>>) {
-    match rng.below(43) {
+    match rng.below(40) {
         0 => some_reports(rng, unit, records),
         1..=19 => records.push(draw_build(rng)),
         20..=28 => records.push(draw_header_read(rng)),
         29..=33 => records.push(draw_block_read(rng)),
         34..=37 => records.push(draw_layout(rng)),
-        38..=40 => records.push(draw_response(rng)),
-        41 => new_settings(rng, unit, records),
+        38 => new_settings(rng, unit, records),
         _ => records.push(odd_record(rng)),
     }
 }
@@ -296,7 +294,7 @@ fn odd_record(rng: &mut Rng) -> Vec<u8> {
             call.record()
         }
         _ => {
-            let (kind, length) = (rng.pick(&[1, 2, 3, 14, 256, 0x010D, 65_535]), rng.index(40));
+            let (kind, length) = (rng.pick(&[1, 2, 3, 13, 256, 65_535]), rng.index(40));
             record(kind, &rng.bytes(length))
         }
     }
@@ -307,10 +305,10 @@ fn cut_record(rng: &mut Rng) -> Vec<u8> {
     match rng.below(5) {
         0 => vec![rng.below(2) as u8, 0],
         1 => vec![0xFF, 0xFF, 8, 0, 1, 1, 1],
-        2 => record(rng.pick(&[7, 13, 14]), &[0x60; 4_097]),
+        2 => record(rng.pick(&[7, 13]), &[0x60; 4_097]),
         3 => record(6, &[8]),
         _ => {
-            let (kind, length) = rng.pick(&[(0, 12), (4, 5), (5, 35), (6, 2), (8, 3), (13, 9)]);
+            let (kind, length) = rng.pick(&[(0, 12), (4, 5), (5, 35), (6, 2), (8, 3)]);
             let shorter = rng.index(length);
             record(kind, &rng.bytes(shorter))
         }

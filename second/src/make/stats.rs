@@ -2,7 +2,7 @@
 
 use super::answers::{answered, ended, Answered, Ended};
 use super::drops::WAYS;
-use super::{calls, log, reports, responses, transport};
+use super::{calls, log, reports, transport};
 use crate::blocks::header_bits;
 use crate::layout;
 use crate::log::print;
@@ -17,14 +17,13 @@ type Table<const N: usize> = BTreeMap<String, [u64; N]>;
 /// For the logs and for each sort of call.
 type Counts = Table<{ COLUMNS.len() }>;
 
-const COLUMNS: [&str; 11] = [
+const COLUMNS: [&str; 10] = [
     "log",
     "report",
     "build",
     "header",
     "block",
     "frame",
-    "answer",
     "unit",
     "transport",
     "sdu",
@@ -43,8 +42,7 @@ const DROP_COLUMNS: [&str; 6] = [
     "others",
 ];
 
-/// Makes and runs the logs, the call files, the reports, the transport calls and the responses of
-/// these seeds.
+/// Makes and runs the logs, the call files, the reports and the transport calls of these seeds.
 pub fn stats(from: u64, to: u64) -> String {
     let (mut counts, mut dropped) = (rows(), drop_rows());
     for seed in from..=to {
@@ -56,7 +54,7 @@ pub fn stats(from: u64, to: u64) -> String {
         let answers = answered(&given, &printed, true);
         count_copies(&mut counts, 0, &answers);
         count_ended(&mut counts, &mut dropped, 0, &answers);
-        for given in [calls(seed), reports(seed), transport(seed), responses(seed)] {
+        for given in [calls(seed), reports(seed), transport(seed)] {
             let printed = probe(&given);
             for line in printed.lines() {
                 count_call_line(&mut counts, line);
@@ -78,11 +76,10 @@ fn rows() -> Counts {
     let kinds = (0..=4).map(|kind| kind_row(&kind.to_string()));
     let marks = (0..=2).map(|mark| mark_row(&mark.to_string()));
     let copies = (0..=6).map(past_row);
-    let slots = (0..=9).map(|slots| slots_row(&slots.to_string()));
     let others = [LAID_OUT, OTHERWISE, "dropped 1", "line"].map(String::from);
     let words = ["unit", "kind", "cut", "bookings"].map(|word| format!("word {word}"));
     let names = outcomes.chain(faults).chain(kinds).chain(marks);
-    let names = names.chain(copies).chain(slots).chain(others).chain(words);
+    let names = names.chain(copies).chain(others).chain(words);
     names.map(|name| (name, [0; COLUMNS.len()])).collect()
 }
 
@@ -102,11 +99,6 @@ fn kind_row(kind: &str) -> String {
 /// What a booking was marked with.
 fn mark_row(mark: &str) -> String {
     format!("mark {mark}")
-}
-
-/// A response of so many slots, 0 for none.
-fn slots_row(slots: &str) -> String {
-    format!("slots {slots}")
 }
 
 /// A copy with so many other messages between it and the header that it repeats.
@@ -145,7 +137,6 @@ fn count_call_line(counts: &mut Counts, line: &str) {
             add(counts, "line".to_string(), column);
             add(counts, fault_row(fault), column);
             match (call, rest) {
-                ("answer", [slots, ..]) => add(counts, slots_row(slots), column),
                 ("transport", [kind, ..]) => add(counts, kind_row(kind), column),
                 ("book", [mark, kind, ..]) => {
                     add(counts, mark_row(mark), column);
@@ -346,7 +337,7 @@ mod tests {
 
     #[test]
     fn the_same_seed_gives_the_same_input() {
-        for made in [log, calls, reports, transport, responses] {
+        for made in [log, calls, reports, transport] {
             assert_eq!(made(7), made(7));
             assert_ne!(made(7), made(8));
         }

@@ -433,7 +433,7 @@ fn booking(rng: &mut Rng, source: u64, carrier: u64, kind: u64, reference: u64) 
 fn odd_record(rng: &mut Rng) -> Vec<u8> {
     match rng.below(3) {
         0 => {
-            let (kind, length) = (rng.pick(&[14, 1, 9 << 8, 65_535]), rng.index(40));
+            let (kind, length) = (rng.pick(&[13, 1, 9 << 8, 65_535]), rng.index(40));
             record(kind, &rng.bytes(length))
         }
         1 => {
