@@ -1,8 +1,8 @@
 #!/usr/bin/env python3
 """Measures the proved library beside the two peers, and writes bench/RESULTS.md. bench/README.md says what is needed.
 
-run.py                 everything: the library is proved and built (`rt staticlib board`), the programs are compared and
-                       measured
+run.py                 everything: the library is proved and built (`rt lib` in crates/board), the programs are
+                       compared and measured
 run.py --quick         only what changes with the library: prints instructions, size and stack, and writes nothing into
                        the repository
 run.py --check         only compares the library's and the peers' programs with the second program, on more made inputs
@@ -103,7 +103,7 @@ HEAD = [
 
 # How each number was got; written in lines of 120 columns.
 COUNTED = "Callgrind counts the instructions." if tools.NATIVE else \
-    "The kit's emulator writes a line for each instruction executed, and the lines are counted; there are no times," \
+    "The emulator writes a line for each instruction executed, and the lines are counted; there are no times," \
     " since times under an emulator say nothing."
 HOW = {
     "instructions":
@@ -146,9 +146,9 @@ HOW = {
         " to be read. `src/` has the code, and a contract at each function. `proofs/` shows that the code keeps the"
         " contracts: the prover reads it, and nobody else has to.",
     "gate":
-        "Seconds that `rt ci` gives for the proof of each crate, and those for its edits, which have to be refused,"
-        " added up: of `rt ci` for the headline edits, each the whole crate from nothing, and of `tests/edits` for all"
-        " others, over what is proved. Crates and edits run beside each other.",
+        "The edits of each crate, which have to be refused: the headline edits, which `rt ci` tries, and those that"
+        " `tests/edits` tries. What an earlier run on the same machine proved or tried, and what has not changed since,"
+        " is not done again.",
 }
 
 
@@ -357,24 +357,19 @@ def gate_lines():
     path = os.path.join(tools.TOP, "target", "gate.txt")
     if not os.path.exists(path):
         return ["`target/gate.txt` is not there: `.ci/run` leaves what `rt` and `tests/edits` say in it.", ""]
-    proofs, edits, ends = {}, {}, []
+    headline, others, ends = collections.Counter(), collections.Counter(), []
     with open(path, encoding="utf-8", errors="replace") as text:
         for line in text:
-            proof = re.match(r"rt: (\w+) proved \((\d+) s\)", line)
-            edit = re.match(r"(?:rt: must-fail|edits: \d+ of \d+, [\w ]+:) (\w+)/\S+ refused.*?(\d+) s\)", line)
-            if proof:
-                proofs[proof[1]] = int(proof[2])
-            elif edit:
-                edits.setdefault(edit[1], []).append(int(edit[2]))
-            elif re.match(r"(rt: ok,|rt: FAILED:|\d+ passed, \d+ failed)", line):
+            edit = re.match(r"(rt: must-fail|edits: \d+ of \d+, [\w ]+:) (\w+)/\S+ refused", line)
+            if edit:
+                (headline if edit[1].startswith("rt:") else others)[edit[2]] += 1
+            elif re.match(r"(gate: proofs|rt: ok;|rt: FAILED:|\d+ passed, \d+ failed)", line):
                 ends.append("`%s`" % line.strip())
-    rows = [["`%s`" % name, proofs[name], len(edits.get(name, [])), sum(edits.get(name, []))]
-            for name in crates()[0] if name in proofs]
-    every = [seconds for of in edits.values() for seconds in of]
-    rows.append(["**all**", sum(proofs.values()), len(every), sum(every)])
+    rows = [["`%s`" % name, headline[name], others[name]] for name in crates()[0] if name in {**headline, **others}]
+    rows.append(["**all**", sum(headline.values()), sum(others.values())])
     when = datetime.datetime.fromtimestamp(os.path.getmtime(path)).strftime("%Y-%m-%d %H:%M")
     lines = prose("From `target/gate.txt` of %s: %s." % (when, "; ".join(ends) or "no last line"))
-    return lines + table(["crate", "proof, s", "edits refused", "edits, s"], rows)
+    return lines + table(["crate", "headline edits refused", "other edits refused"], rows)
 
 
 # ---- the head
@@ -403,7 +398,8 @@ def osmo_version():
 
 
 def head_lines(library):
-    built = "`%s`, `rt staticlib board`; kit `%s`" % (os.path.relpath(library, tools.TOP), first_line("rt", "version"))
+    kit = "kit `%s`" % first_line("rt", "version") if tools.NATIVE else "built on an x86-64 machine"
+    built = "`%s`, `rt lib` in `crates/board`; %s" % (os.path.relpath(library, tools.TOP), kit)
     callgrind = tools.NATIVE and first_line("valgrind", "--version") + ", callgrind"
     rows = [
         ["date", datetime.date.today().isoformat()],
@@ -493,9 +489,12 @@ def main():
         said = ["Nothing was measured, nothing was changed. Missing:"] + ["  " + line for line in lacking]
         sys.exit("\n".join(said + ["bench/README.md says more."]))
     if not words.library:
-        words.library = os.path.join(tools.TOP, "target", "staticlib", "libboard.a")
-        if subprocess.run(["rt", "staticlib", "board"], cwd=tools.TOP, stdout=subprocess.DEVNULL).returncode:
-            sys.exit("rt did not prove and build the library: run `rt staticlib board`")
+        crate = os.path.join(tools.TOP, "crates", "board")
+        words.library = os.path.join(crate, "out", "libboard.a")
+        if not tools.NATIVE:
+            sys.exit("on this machine name the library, as an x86-64 machine built it: --library FILE")
+        if subprocess.run(["rt", "lib"], cwd=crate, stdout=subprocess.DEVNULL).returncode:
+            sys.exit("rt did not prove and build the library: run `rt lib` in crates/board")
     words.library, words.include = os.path.abspath(words.library), os.path.abspath(words.include)
     if words.quick:
         quick(words)

@@ -7,8 +7,8 @@ import sys
 
 HERE = os.path.dirname(os.path.abspath(__file__))
 TOP = os.path.dirname(HERE)
-# An x86-64 machine has its own compiler, libraries and counter; any other has Debian's for x86-64, and the emulator of
-# the Rattle kit.
+# An x86-64 machine has its own compiler, libraries and counter; any other has Debian's for x86-64, Debian's emulator, and
+# the library as an x86-64 machine built it.
 NATIVE = platform.machine() == "x86_64"
 PREFIX = "" if NATIVE else "x86_64-linux-gnu-"
 LIBC = "/usr/x86_64-linux-gnu"
@@ -22,14 +22,8 @@ def said(words, **more):
     return subprocess.run(words, stdout=subprocess.PIPE, check=True, text=True, **more).stdout
 
 
-def kit():
-    """The folder of the Rattle kit."""
-    rt = os.path.realpath(shutil.which("rt") or "/rt")
-    return os.environ.get("RATTLE_HOME") or os.path.dirname(os.path.dirname(rt))
-
-
 def emulator():
-    return os.path.join(kit(), "on", platform.machine(), "toolchain", "bin", "qemu-x86_64")
+    return shutil.which("qemu-x86_64") or "qemu-x86_64"
 
 
 def missing(second):
@@ -39,17 +33,15 @@ def missing(second):
     if NATIVE:
         programs += [("gcc", "gcc libc6-dev"), ("pkg-config", "pkg-config"), ("valgrind", "valgrind")]
     else:
-        programs += [("x86_64-linux-gnu-gcc", "gcc-x86-64-linux-gnu")]
+        programs += [("x86_64-linux-gnu-gcc", "gcc-x86-64-linux-gnu"), ("qemu-x86_64", "qemu-user")]
         for name in ("lib/ld-linux-x86-64.so.2", "include/stdio.h"):
             files.append((os.path.join(LIBC, name), "libc6-dev-amd64-cross"))
     if second:
         programs += [("cargo", "cargo")]
     found = ["%s: apt-get install %s" % what for what in programs if not shutil.which(what[0])]
     found += ["%s: apt-get install %s" % what for what in files if not os.path.exists(what[0])]
-    if not shutil.which("rt"):
+    if NATIVE and not shutil.which("rt"):
         found.append("rt: the Rattle kit's prover and compiler, in its folder bin/")
-    elif not NATIVE and not os.path.exists(emulator()):
-        found.append("%s: the Rattle kit's emulator" % emulator())
     return found + missing_osmo()
 
 

@@ -4,10 +4,10 @@
  * receiver hands over: reading and building them, and an index by which each transfer is booked once.
  * Steps over lent bits, for what else a board reads in them.
  *
- * Link target/staticlib/libboard.a (`rt staticlib board`). It is for x86-64 with the System V calling
- * convention, as on Linux, and uses the SSE registers and the red zone. Of a C library it needs memcpy,
- * memmove, memset and memcmp at most. It keeps no state of its own and takes no memory: calls that
- * share nothing may run at the same time. examples/board.c is a slot handler over it.
+ * Link crates/board/out/libboard.a (`rt lib` in crates/board). It is for x86-64 with the System V
+ * calling convention, as on Linux, and uses the SSE registers and the red zone. Of a C library it needs
+ * memcpy, memmove, memset and memcmp at most. It keeps no state of its own and takes no memory: calls
+ * that share nothing may run at the same time. examples/board.c is a slot handler over it.
  *
  * Every call takes every number and every lent byte, ends, and answers. A call that is refused
  * answers a fault's number (enum pierstrand_fault) and 0 for everything else, but a step over bits the

@@ -6,7 +6,7 @@ repeats.py            print the tables
 repeats.py --check    exit 1, and say where, if they are not those of repeats.txt
 
 All of it is asked of `probe`, record by record: a build for each header that goes out, the layout for each block, and
-the readers for what comes back. `rt check probe` makes that program.
+the readers for what comes back. `rt run` in crates/probe makes that program.
 """
 import os
 import sys

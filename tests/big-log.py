@@ -4,10 +4,9 @@ with the log.
 
 big-log.py [MEGABYTES]    200 if none is named
 
-Not part of the gate: under the kit's emulator it takes some ten minutes. The log is made while it is sent: a long log
-of the second program, its reports over and over, and a record that is cut off at the end. What is to come is known from
-the second program on three rounds. The memory is the most that the printer's process ever held (VmHWM), with the
-emulator where there is one: after the first 5 MB, and at the end.
+Not part of the gate, since it takes long. The log is made while it is sent: a long log of the second program, its
+reports over and over, and a record that is cut off at the end. What is to come is known from the second program on
+three rounds. The memory is the most that the printer's process ever held (VmHWM): after the first 5 MB, and at the end.
 """
 import os
 import subprocess

@@ -8,9 +8,8 @@ board.py --example    build and run examples/board.c: behind examples/run
 
 The library is proved and built by `rt lib` in crates/board. The compiler is the kit's clang, with the headers of
 tests/c99/. What is held:
-- the functions of the header take and answer what those of crates/board do, but for one that the header does not have
-  yet (NOT_YET), and the library needs no more of a C library than the header says; no two names of the header are the
-  same;
+- the functions of the header take and answer what those of crates/board do, and the library needs no more of a C
+  library than the header says; no two names of the header are the same;
 - the sizes, alignments and fields that a C compiler gives the structs of the header (tests/layout.c prints them) are
   those that C's rule gives the #[repr(C)] structs of the crates;
 - the library reads and writes each field where the header has it, and each number of the header is the library's:
@@ -45,7 +44,6 @@ STEPS = os.path.join("tests", "steps")
 WARNINGS = ["-Wall", "-Wextra", "-pedantic", "-Werror"]
 OF_C = {"memcpy", "memmove", "memset", "memcmp"}  # what the header says that the library needs
 CALLED = "bits::last_one"  # what is not to be copied into its callers
-NOT_YET = {"pierstrand_find_calendar"}  # what crates/board has and the header does not: see docs/PORT.md
 
 
 def fail(what):
@@ -88,7 +86,8 @@ def structs():
     found = {}
     for path in sources():
         if path.endswith(".rt"):
-            for name, body in re.findall(r"#\[repr\(C\)\]\n(?:#\[.*\]\n)*pub struct (\w+) \{\n(.*?)\n\}", read(path), re.S):
+            form = r"#\[repr\(C\)\]\n(?:#\[[^\n]*\]\n)*pub struct (\w+) \{\n(.*?)\n\}"
+            for name, body in re.findall(form, read(path), re.S):
                 if name in found:
                     fail("two structs for C are called " + name)
                 found[name] = re.findall(r"^    pub (\w+): (.+),$", body, re.M)
@@ -137,7 +136,7 @@ def exported():
     source = read("crates", "board", "src", "lib.rt")
     functions = re.findall(r'^pub extern "C" fn (\w+)\((.*?)\) -> (\w+)$', source, re.M | re.S)
     return {"%s %s(%s)" % (in_c(answer), name, ", ".join(in_c(of) for of in re.findall(r"\w+: ([^,]+)", given)))
-            for name, given, answer in functions if name not in NOT_YET}
+            for name, given, answer in functions}
 
 
 def declared(header):

@@ -10,7 +10,7 @@ A log (`second make log SEED`) has 50 to 400 reports of mutated runs, records th
 the printer or an end in the middle; each is a run of the printer by itself, since a log ends at its first `unit` or
 `cut`. A long one (`second make long SEED`) has some 20,000 reports and nothing that stops. Over the fresh logs every
 outcome, every fault that a log can give and each of the three words has to have come. As many runs go at a time as
-there are processors; under the kit's emulator a run takes some 60 ms, most of it to start.
+there are processors.
 
 The lines of each log are also held to a law by themselves: where a unit begins to receive (outcome 3), that has ended
 (outcome 2, or dropped 1) at the latest 38 reports later. Over the fresh logs exactly 38 has to have come.

@@ -19,8 +19,8 @@ FIELDS = dict(system=13, usage=0, to_type=0, to=UNIT, from_type=0, source=7, mni
 ACK = dict(message=24, width=1, elements=1, from_type=2, source=0)
 UDATA = dict(message=22)
 HEAD = """-- Slot reports with what they are to answer, made by tests/stored_run.py.
-use mathlib.Core.List.{List, [], _∷_}
-use Rattle·demands·specs.specs.RunRows.{Row, row}
+use Rattle.std.specs.Prelude.{List, [], ◌∷◌}
+use Rattle.demands.specs.RunRows.{Row, row}
 
 abbrev pub table : List Row
 table =
