@@ -45,6 +45,8 @@
 // What a body has more than its kind takes is left alone. Another kind, or a buffer or an output above 1,024, prints
 // `kind`, and is skipped. A record that is cut off, has a length below 2 or a body above 4,096 bytes, or is shorter
 // than its kind, prints `cut`, and nothing is read after it.
+#![tactic(auto)]
+
 ghost use Rattle.std.specs.Prelude.{◌≡◌, ◌≤◌, length};
 ghost use Rattle.probe.specs.Tells.{StateReached, with_receiver, with_bookings, Tells, Kept};
 
@@ -53,23 +55,24 @@ use lines::input::Taken;
 use lines::line;
 use lines::line::Line;
 use receiver::Receiver;
+use std::io::{Read, Write};
 
 // What is kept from one record to the next.
-#[derive(Drop)]
+#[derive(Clone, Copy)]
 struct State {
     receiver: Receiver,
     bookings: Bookings,
 }
 
 // What is kept after a record, and the record's line.
-#[derive(Drop)]
+#[derive(Clone, Copy)]
 struct StateLine {
     state: State,
     line: Line,
 }
 
 // What is kept after a record, and whether another is to be read.
-#[derive(Drop)]
+#[derive(Clone, Copy)]
 struct Step {
     state: State,
     more: bool,
@@ -130,7 +133,7 @@ fn tell(before: State, kind: u16, body: &[u8], line: &mut [u8]) -> StateLine
 }
 
 // Answers a record.
-fn answer_record(before: State, kind: u16, body: &[u8]) -> Step
+fn answer_record<W: Write>(to: &mut W, before: State, kind: u16, body: &[u8]) -> Step
     requires { StateReached before }
     ensures { StateReached result.state × Kept before kind body.now result.state }
 {
@@ -141,25 +144,25 @@ fn answer_record(before: State, kind: u16, body: &[u8]) -> Step
     let Line::Bytes(n) = said else {
         return Step {
             state,
-            more: line::cut(),
+            more: line::cut(to),
         };
     };
     Step {
         state,
-        more: line::say(&out, n),
+        more: line::say(to, &out, n),
     }
 }
 
-fn next(before: State) -> Step
+fn next<R: Read, W: Write>(input: &mut R, to: &mut W, before: State) -> Step
     requires { StateReached before }
     ensures { StateReached result.state }
 {
-    let mut body = io::buffer();
-    match lines::input::take(&mut body) {
-        Taken::Record(kind, n) => answer_record(before, kind, &body[..n]),
+    let mut body = [0u8; 4096];
+    match lines::input::take(input, &mut body) {
+        Taken::Record(kind, n) => answer_record(to, before, kind, &body[..n]),
         Taken::Cut => Step {
             state: before,
-            more: line::cut(),
+            more: line::cut(to),
         },
         Taken::End => Step {
             state: before,
@@ -170,7 +173,9 @@ fn next(before: State) -> Step
 
 // A proved loop has to end, and nothing says that the input does: the turns are counted down from more than a run
 // takes.
-fn main() {
+fn main(rt: HostRuntime) {
+    let mut input = rt.stdin();
+    let mut to = rt.stdout();
     let fresh = Receiver::fresh(0, 0, 0);
     let receiver = fresh.receiver;
     let bookings = Bookings::fresh();
@@ -181,7 +186,7 @@ fn main() {
     let mut turns = u64::MAX;
     while 0 < turns && step.more {
         let before = step.state;
-        step = next(before);
+        step = next(&mut input, &mut to, before);
         turns -= 1;
     }
 }
