@@ -1,11 +1,11 @@
 -- The laws of due slots. Assumes nothing.
-use mathlib.Core.Path.{◌≡◌, refl, ap, ◌∙◌}
+use mathlib.Core.Path.{◌≡◌, refl, sym, ap, ◌∙◌}
 use mathlib.Core.Bool.{Bool, true, false, cond}
 use mathlib.Core.Logic.{◌⊎◌, inl, inr}
-use Prim.Native.Nat.{ℕ, zero, suc, ◌+◌, ◌/◌, ◌%◌, ◌≤◌, ◌<◌}
+use Prim.Native.Nat.{ℕ, zero, suc, ◌+◌, ◌-◌, ◌/◌, ◌%◌, ◌≤◌, ◌<◌}
 use native.Mathlib.Omega.{arith}
 use lib.Dec.{eqb, leb}
-use borrow.Author.Tests.{eqb-true, eqb-false, eq-eqb, ne_eqb, leb-true, leb-false}
+use borrow.Author.Tests.{eqb-true, eqb-false, eq-eqb, ne_eqb, le-leb, lt-leb}
 use Rattle.blocks.specs.Slots.{next_frame, frame_number, passing, frames_to, due_frame, since1}
 
 -- ---- frames from X
@@ -25,14 +25,15 @@ passes x k = passes_when (eqb (frame_number x k) 18) x k refl
 pub first_soon : (x f : ℕ) → Passes x (suc f) (frames_to x f 0)
 first_soon x f = passes x (suc f)
 
--- no earlier than that, and one of frames 1 to 17
+-- no earlier than that, one of frames 1 to 17, and the next of these
 record Passed (x k p : ℕ) : Type 0 where
   soon : k ≤ p
   never_18 : frame_number x p ≤ 17
+  number : frame_number x p ≡ (frame_number x k - 1) % 17 + 1
 
 passed_by : (x k p : ℕ) → 1 ≤ k → Passes x k p → Passed x k p
-passed_by x k p l (inl (e, h)) = record { soon = omega arith; never_18 = omega arith }
-passed_by x k p l (inr (e, h)) = record { soon = omega arith; never_18 = omega arith }
+passed_by x k p l (inl (e, h)) = rw e (record { soon = omega arith; never_18 = h; number = omega arith })
+passed_by x k p l (inr (e, h)) = rw e (record { soon = omega arith; never_18 = omega arith; number = omega arith })
 
 passed : (x k : ℕ) → Passed x (suc k) (passing x (suc k))
 passed x k = passed_by x (suc k) (passing x (suc k)) (omega arith) (passes x (suc k))
@@ -63,6 +64,34 @@ no_later x f i j h = go (eqb i j) refl
 
 -- ---- how many they are
 
+-- a frame for each repeat and for each block up to this one, and one more where 18 lies among those of the blocks
+abbrev Counted : ℕ → ℕ → ℕ → ℕ → Type 0
+Counted x f i p = let y = next_frame (x + f) + i in ((p ≡ f + suc i) × (y ≤ 17)) ⊎ ((p ≡ suc (f + suc i)) × (18 ≤ y))
+
+counted_first : (x f p : ℕ) → Passes x (suc f) p → Counted x f 0 p
+counted_first x f p (inl (e, h)) = inl (omega arith, omega arith)
+counted_first x f p (inr (e, h)) = inr (omega arith, omega arith)
+
+counted_next : (x f i p q : ℕ) → i ≤ 15 → Counted x f i p → Passes x (suc p) q → Counted x f (suc i) q
+counted_next x f i p q l (inl (e, h)) (inl (d, g)) = inl (omega arith, omega arith)
+counted_next x f i p q l (inl (e, h)) (inr (d, g)) = inr (omega arith, omega arith)
+counted_next x f i p q l (inr (e, h)) (inl (d, g)) = inr (omega arith, omega arith)
+counted_next x f i p q l (inr (e, h)) (inr (d, g)) = absurd (omega arith)
+
+counted : (x f i : ℕ) → i ≤ 16 → Counted x f i (frames_to x f i)
+counted x f zero l = counted_first x f (frames_to x f 0) (first_soon x f)
+counted x f (suc i) l =
+    counted_next x f i (frames_to x f i) (frames_to x f (suc i)) (omega arith) (counted x f i (omega arith))
+    (passes x (suc (frames_to x f i)))
+
+pub frames_closed : (x f i : ℕ) → i ≤ 16
+    → frames_to x f i ≡ f + suc i + cond (leb 18 (next_frame (x + f) + i)) 1 0
+frames_closed x f i l = go (counted x f i l)
+  where
+    go : Counted x f i (frames_to x f i) → frames_to x f i ≡ f + suc i + cond (leb 18 (next_frame (x + f) + i)) 1 0
+    go (inl (e, h)) = rw (lt-leb 18 (next_frame (x + f) + i) (omega arith)) (omega arith)
+    go (inr (e, h)) = rw (le-leb 18 (next_frame (x + f) + i) h) (omega arith)
+
 -- a frame for each repeat and for each block up to this one, and one more for each 17 frames from frame 1 on
 abbrev closed : ℕ → ℕ → ℕ → ℕ
 closed x f i = f + suc i + since1 x f i / 17
@@ -79,16 +108,6 @@ frames_counted x f (suc i) =
     go : (p q : ℕ) → p ≡ closed x f i → Passes x (suc p) q → q ≡ closed x f (suc i)
     go p q e (inl (d, h)) = omega arith
     go p q e (inr (d, h)) = omega arith
-
--- in fewer than 18 blocks that is one, or none
-pub frames_closed : (x f i : ℕ) → i ≤ 16
-    → frames_to x f i ≡ f + suc i + cond (leb 18 (next_frame (x + f) + i)) 1 0
-frames_closed x f i l = go (leb 18 (next_frame (x + f) + i)) refl (frames_counted x f i)
-  where
-    go : (t : Bool) → leb 18 (next_frame (x + f) + i) ≡ t → frames_to x f i ≡ closed x f i
-        → frames_to x f i ≡ f + suc i + cond t 1 0
-    go true e n = let m = leb-true 18 (next_frame (x + f) + i) e in omega arith
-    go false e n = let m = leb-false 18 (next_frame (x + f) + i) e in omega arith
 
 -- each at most two frames after the one before
 soon_by : (x k p : ℕ) → Passes x k p → p ≤ suc k
@@ -122,12 +141,16 @@ pub due_range : (x f i : ℕ) → (1 ≤ due_frame x f i) × (due_frame x f i �
 due_range x f zero = (omega arith, (passed x f).never_18)
 due_range x f (suc i) = (omega arith, (passed x (frames_to x f i)).never_18)
 
-pub due_closed : (x f i : ℕ) → due_frame x f i ≡ since1 x f i % 17 + 1
-due_closed x f i = let e = frames_counted x f i in omega arith
-
 -- successive blocks go in successive frames of 1 to 17
 pub due_next : (x f i : ℕ) → due_frame x f (suc i) ≡ due_frame x f i % 17 + 1
-due_next x f i = let e = due_closed x f i in let n = due_closed x f (suc i) in omega arith
+due_next x f i =
+    let l = after_headers x f i in
+    let r = (due_range x f i).1 in
+    next_by (due_frame x f i) (frame_number x (suc (frames_to x f i))) (due_frame x f (suc i)) r (omega arith)
+    (passed x (frames_to x f i)).number
+  where
+    next_by : (y z d : ℕ) → y ≤ 17 → z ≡ y % 18 + 1 → d ≡ (z - 1) % 17 + 1 → d ≡ y % 17 + 1
+    next_by y z d l e n = let w : z - 1 ≡ y = omega arith in rw w at n
 
 -- the first block's, and so every block's
 abbrev pub first_frame : ℕ → ℕ → ℕ
@@ -140,6 +163,15 @@ first_by x f p (inr (e, h)) = rw (e, eq-eqb (next_frame (x + f)) 18 (omega arith
 pub due_first : (x f : ℕ) → due_frame x f 0 ≡ first_frame x f
 due_first x f = first_by x f (frames_to x f 0) (first_soon x f)
 
+pub due_closed : (x f i : ℕ) → due_frame x f i ≡ (first_frame x f - 1 + i) % 17 + 1
+due_closed x f zero = let r = due_range x f 0 in let e = due_first x f in omega arith
+due_closed x f (suc i) = let e = due_closed x f i in let n = due_next x f i in omega arith
+
+-- and as frames 1 to 17 counted from frame 1
+pub due_counted : (x f i : ℕ) → due_frame x f i ≡ since1 x f i % 17 + 1
+due_counted x f i = let e = frames_counted x f i in omega arith
+
 -- headers with the same frame after their last repeats have the same due frames
 pub due_alike : (x f y c i : ℕ) → next_frame (x + f) ≡ next_frame (y + c) → due_frame x f i ≡ due_frame y c i
-due_alike x f y c i e = let m = due_closed x f i in let n = due_closed y c i in omega arith
+due_alike x f y c i e =
+    due_closed x f i ∙ ap (λ (z : ℕ). (cond (eqb z 18) 1 z - 1 + i) % 17 + 1) e ∙ sym (due_closed y c i)

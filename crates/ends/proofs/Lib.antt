@@ -6,4 +6,3 @@ pub mod DifferentLaws
 pub mod EndToEndHolds
 pub mod DeliveredHolds
 pub mod MixedHolds
-pub mod AnsweredHolds

@@ -3,4 +3,3 @@ pub mod Sent
 pub mod EndToEnd
 pub mod Mixed
 pub mod Delivered
-pub mod Answered

@@ -1,6 +1,6 @@
 use native.Mathlib.Omega.{arith}
-use Rattle.blocks.proofs.SlotLaws.{due_closed}
+use Rattle.blocks.proofs.SlotLaws.{due_counted}
 use Rattle.blocks.proofs.slots.frame_of.Goals as goal
 
 pub returns : goal.returns
-returns c = rw (due_closed _ _ _) (omega (arith, c.since_1.ensures))
+returns c = rw (due_counted _ _ _) (omega (arith, c.since_1.ensures))
