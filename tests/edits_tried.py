@@ -129,7 +129,7 @@ def main():
         hold(top, ["ending"], ending, PATH=os.path.join(top, "bin") + os.pathsep + os.environ["PATH"])
         if "no edit in crates/NAME/edits/ for none seven/none" not in run(top, ["seven", "none", "seven/none"], 2):
             fail(["seven", "none", "seven/none"], "unknown names are not told", "")
-        if "edits: NOT PROVED as they are: above" not in run(top, ["above"], 1):
+        if "fn broken::seven: " not in run(top, ["above"], 1):
             fail(["above"], "what rt says of the crate below is not shown", "")
     print("edits_tried: %d edits have the verdicts that are known" % len({**known, **ending}))
 

@@ -29,8 +29,16 @@ def reached(listed, names):
     return found
 
 
+def link(one, other):
+    """A second name for a file of a built library, or a copy: rt removes such a file before it makes it anew."""
+    try:
+        os.link(one, other)
+    except OSError:
+        shutil.copyfile(one, other)
+
+
 def copy(top, to, names):
-    """Copies crates as they are proved, without what is made of them. `rt` begins there with what it kept here."""
+    """Copies crates, with the libraries that are built of them, which spares a proof where nothing has changed."""
     for file in ("crates.txt", "HANDLES"):
         if os.path.isfile(os.path.join(top, file)):
             with open(os.path.join(top, file), encoding="utf-8") as text:
@@ -40,9 +48,13 @@ def copy(top, to, names):
             with open(os.path.join(to, file), "w", encoding="utf-8") as text:
                 text.writelines(lines)
     for name in names:
+        here, there = os.path.join(top, "crates", name), os.path.join(to, "crates", name)
         for part in PARTS:
-            if os.path.isdir(os.path.join(top, "crates", name, part)):
-                shutil.copytree(os.path.join(top, "crates", name, part), os.path.join(to, "crates", name, part))
+            if os.path.isdir(os.path.join(here, part)):
+                shutil.copytree(os.path.join(here, part), os.path.join(there, part))
+        built = os.path.join("out", "rlib")
+        if os.path.isdir(os.path.join(here, built)):
+            shutil.copytree(os.path.join(here, built), os.path.join(there, built), copy_function=link)
 
 
 def words(seconds):
