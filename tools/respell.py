@@ -55,9 +55,8 @@ def read(p):
 def respelled(name):
     """`framesTo` and `frames-to` as `frames_to`."""
     s = name.replace("′", "'")
-    s = re.sub(r"(?<=[a-z0-9])-(?=[a-zA-Z0-9])", "_", s)
-    s = re.sub(r"(?<=[a-z])([A-Z]+)(?=$|[A-Z][a-z]|_|[0-9₀-₉'])", r"_\1", s)
-    s = re.sub(r"(?<=[a-z0-9])([A-Z])(?=[a-z])", r"_\1", s)
+    s = re.sub(r"(?<=[a-zA-Z0-9])-(?=[a-zA-Z0-9])", "_", s)
+    s = re.sub(r"(?<=[a-z0-9])(?=[A-Z])|(?<=[A-Z])(?=[A-Z][a-z])", "_", s)
     return s.lower()
 
 

@@ -10,7 +10,7 @@ use lib.Seq.{length-slice, take-nil, drop-nil, slice, slice-cons, slice_empty, d
 use lib.Seq.{drop-append-add, take_at, drop_at}
 use lib.Pow.{shl_exact}
 use Rattle.bits.specs.Bits.{num, bits_n, bits_of, bytes_n, AllBytes}
-use Rattle.bits.proofs.Numbers.{length_bits_n, num_append, num_lt, num_bits_n, bitsn-is, num_take_lt, num_field}
+use Rattle.bits.proofs.Numbers.{length_bits_n, num_append, num_lt, num_bits_n, bits_n_is, num_take_lt, num_field}
 use Rattle.bits.proofs.Numbers.{take_of_drop, drop_of_take, num_shr}
 
 pub length_bits_of : (s : List ℕ) → length (bits_of s) ≡ 8 * length s
@@ -55,10 +55,10 @@ unfolding bytes_n
 length_bytes_n zero b = refl
 length_bytes_n (suc n) b = ap suc (length_bytes_n n (drop 8 b))
 
-pub bytesn-bytes : (n : ℕ) (b : List Bool) → AllBytes (bytes_n n b)
+pub bytes_n_bytes : (n : ℕ) (b : List Bool) → AllBytes (bytes_n n b)
 unfolding bytes_n
-bytesn-bytes zero b = tt
-bytesn-bytes (suc n) b = (num_take_lt 8 b, bytesn-bytes n (drop 8 b))
+bytes_n_bytes zero b = tt
+bytes_n_bytes (suc n) b = (num_take_lt 8 b, bytes_n_bytes n (drop 8 b))
 
 -- the bytes of a string of whole bytes have its bits
 pub bits_of_bytes_n : (n : ℕ) (b : List Bool) → length b ≡ 8 * n → bits_of (bytes_n n b) ≡ b
@@ -67,26 +67,26 @@ bits_of_bytes_n zero [] e = refl
 bits_of_bytes_n zero (x ∷ xs) e = absurd (omega arith)
 bits_of_bytes_n (suc n) b e =
     ap₂ (λ (x y : List Bool). x ++ y)
-    (bitsn-is 8 (num (take 8 b)) (take 8 b) (rw (length-take 8 b) (omega arith)) refl)
+    (bits_n_is 8 (num (take 8 b)) (take 8 b) (rw (length-take 8 b) (omega arith)) refl)
     (bits_of_bytes_n n (drop 8 b) (rw (length-drop 8 b) (omega arith)))
     ∙ take-append-drop 8 b
 
 -- the bytes of the bits of bytes, whatever bits come after
-pub bytesn-bits_of : (s : List ℕ) (b : List Bool) → AllBytes s → bytes_n (length s) (bits_of s ++ b) ≡ s
+pub bytes_n_bits_of : (s : List ℕ) (b : List Bool) → AllBytes s → bytes_n (length s) (bits_of s ++ b) ≡ s
 unfolding bytes_n bits_of
-bytesn-bits_of [] b h = refl
-bytesn-bits_of (x ∷ xs) b h =
+bytes_n_bits_of [] b h = refl
+bytes_n_bits_of (x ∷ xs) b h =
     let e : (bits_n 8 x ++ bits_of xs) ++ b ≡ bits_n 8 x ++ (bits_of xs ++ b) = append_assoc (bits_n 8 x) (bits_of xs) b in
     let l : length (bits_n 8 x) ≡ 8 = length_bits_n 8 x in
     ap₂ ◌∷◌
     (ap num (ap (take 8) e ∙ take_at (bits_n 8 x) (bits_of xs ++ b) 8 l) ∙ num_bits_n 8 x h.0)
-    (ap (bytes_n (length xs)) (ap (drop 8) e ∙ drop_at (bits_n 8 x) (bits_of xs ++ b) 8 l) ∙ bytesn-bits_of xs b h.1)
+    (ap (bytes_n (length xs)) (ap (drop 8) e ∙ drop_at (bits_n 8 x) (bits_of xs ++ b) 8 l) ∙ bytes_n_bits_of xs b h.1)
 
 -- bytes are their bits
 pub bits_of_inj : (s t : List ℕ) → AllBytes s → AllBytes t → bits_of s ≡ bits_of t → s ≡ t
 bits_of_inj s t hs ht e =
     let l : length s ≡ length t = omega (arith, length_bits_of s, length_bits_of t, ap length e) in
-    sym (bytesn-bits_of s [] hs) ∙ ap₂ (λ (n : ℕ) (b : List Bool). bytes_n n (b ++ [])) l e ∙ bytesn-bits_of t [] ht
+    sym (bytes_n_bits_of s [] hs) ∙ ap₂ (λ (n : ℕ) (b : List Bool). bytes_n n (b ++ [])) l e ∙ bytes_n_bits_of t [] ht
 
 -- what holds of each place holds of the list
 pub all_bytes : (s : List ℕ) → ((i : ℕ) → get_or s i 0 < 256) → AllBytes s

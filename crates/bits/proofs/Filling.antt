@@ -10,7 +10,7 @@ use lib.ListN.{length, replicate, length-replicate, length-append, replicate-app
 use lib.Pow.{pow_pos}
 use Rattle.bits.specs.Bits.{bits_n, test_bit, over}
 use Rattle.bits.specs.Fill.{before, strip, fill_bits, filled}
-use Rattle.bits.proofs.Numbers.{bitsn-high, bitsn-zero}
+use Rattle.bits.proofs.Numbers.{bits_n_high, bits_n_zero}
 use Rattle.bits.proofs.Over.{over_over}
 
 pub strip_none : (r : List Bool) → strip r ≡ none → strip (false ∷ r) ≡ none
@@ -106,8 +106,8 @@ unfolding bits_n test_bit
 fill_start m =
     let one : 2 ^ m / 2 ^ m ≡ 1 = div_self (pow_pos m) in
     let zeros : bits_n m (2 ^ m) ≡ bits_n m 0 =
-    ap (bits_n m) (sym (one-mul (2 ^ m)) ∙ sym (add-zero (1 * 2 ^ m))) ∙ bitsn-high m 1 0 in
-    rw (one, zeros, bitsn-zero m) refl
+    ap (bits_n m) (sym (one-mul (2 ^ m)) ∙ sym (add-zero (1 * 2 ^ m))) ∙ bits_n_high m 1 0 in
+    rw (one, zeros, bits_n_zero m) refl
 
 pub clear_more : (from i w : ℕ) (b : List Bool) → from ≤ i → i + w ≤ length b
     → over i (bits_n w 0) (over from (replicate (i - from) false) b) ≡ over from (replicate (i + w - from) false) b
@@ -116,7 +116,7 @@ clear_more from i w b h l =
     let lf : length f ≡ i - from = length-replicate (i - from) false in
     let e : i ≡ from + length f = omega arith in
     let m : i - from + w ≡ i + w - from = omega arith in
-    rw (bitsn-zero w)
+    rw (bits_n_zero w)
     (ap (λ (x : ℕ). over x (replicate w false) (over from f b)) e
     ∙ over_over from f (replicate w false) b (rw (length-replicate w false) (omega arith))
     ∙ ap (λ (x : List Bool). over from x b)

@@ -34,14 +34,14 @@ pub bit_test_bit : (v k : ℕ) → bit (test_bit v k) ≡ v / 2 ^ k % 2
 unfolding test_bit
 bit_test_bit v k = bit_odd_when (test_bit v k) (v / 2 ^ k % 2) (omega arith) refl
 
-pub num_bitsn-mod : (w v : ℕ) → num (bits_n w v) ≡ v % 2 ^ w
+pub num_bits_n_mod : (w v : ℕ) → num (bits_n w v) ≡ v % 2 ^ w
 unfolding num bits_n
-num_bitsn-mod zero v = sym (mod-one v)
-num_bitsn-mod (suc w) v =
-    rw (bit_test_bit v w, length_bits_n w v, num_bitsn-mod w v, ← one-add w, mod-pow-add v 1 w) refl
+num_bits_n_mod zero v = sym (mod-one v)
+num_bits_n_mod (suc w) v =
+    rw (bit_test_bit v w, length_bits_n w v, num_bits_n_mod w v, ← one-add w, mod-pow-add v 1 w) refl
 
 pub num_bits_n : (w v : ℕ) → v < 2 ^ w → num (bits_n w v) ≡ v
-num_bits_n w v h = num_bitsn-mod w v ∙ mod-eq_of_lt h
+num_bits_n w v h = num_bits_n_mod w v ∙ mod-eq_of_lt h
 
 bit_lt : (b : Bool) → bit b < 2
 unfolding bit
@@ -67,45 +67,45 @@ num_append (x ∷ xs) b =
     ) refl
 
 -- the high j bits of j + k, and the low k
-pub bitsn-add : (j k v : ℕ) → bits_n (j + k) v ≡ bits_n j (v / 2 ^ k) ++ bits_n k v
+pub bits_n_add : (j k v : ℕ) → bits_n (j + k) v ≡ bits_n j (v / 2 ^ k) ++ bits_n k v
 unfolding bits_n test_bit
-bitsn-add zero k v = rw (zero-add k) refl
-bitsn-add (suc j) k v = rw (suc-add j k, bitsn-add j k v, shr-shr v k j, add_comm k j) refl
+bits_n_add zero k v = rw (zero-add k) refl
+bits_n_add (suc j) k v = rw (suc-add j k, bits_n_add j k v, shr-shr v k j, add_comm k j) refl
 
 -- what stands above the w low bits does not count
-pub bitsn-high : (w h l : ℕ) → bits_n w (h * 2 ^ w + l) ≡ bits_n w l
+pub bits_n_high : (w h l : ℕ) → bits_n w (h * 2 ^ w + l) ≡ bits_n w l
 unfolding bits_n test_bit
-bitsn-high zero h l = refl
-bitsn-high (suc w) h l =
+bits_n_high zero h l = refl
+bits_n_high (suc w) h l =
     rw (
       pow-suc 2 w,
       mul_comm (2 ^ w) 2,
       ← mul_assoc h 2 (2 ^ w),
-      bitsn-high w (h * 2) l,
+      bits_n_high w (h * 2) l,
       mul-add-div_right (pow_pos w) (h * 2) l,
       mul-add-mod_self_right h 2 (l / 2 ^ w),
     ) refl
 
-pub bitsn-mod : (w v : ℕ) → bits_n w (v % 2 ^ w) ≡ bits_n w v
-bitsn-mod w v = sym (bitsn-high w (v / 2 ^ w) (v % 2 ^ w)) ∙ ap (bits_n w) (split v w)
+pub bits_n_mod : (w v : ℕ) → bits_n w (v % 2 ^ w) ≡ bits_n w v
+bits_n_mod w v = sym (bits_n_high w (v / 2 ^ w) (v % 2 ^ w)) ∙ ap (bits_n w) (split v w)
 
 bit_back : (b : Bool) → eqb (bit b % 2) 1 ≡ b
 unfolding bit
 bit_back true = refl
 bit_back false = refl
 
-pub bitsn-num : (b : List Bool) → bits_n (length b) (num b) ≡ b
+pub bits_n_num : (b : List Bool) → bits_n (length b) (num b) ≡ b
 unfolding bits_n num test_bit
-bitsn-num [] = refl
-bitsn-num (b ∷ bs) =
-    rw (high (bit b) (length bs) (num_lt bs), bit_back b, bitsn-high (length bs) (bit b) (num bs), bitsn-num bs) refl
+bits_n_num [] = refl
+bits_n_num (b ∷ bs) =
+    rw (high (bit b) (length bs) (num_lt bs), bit_back b, bits_n_high (length bs) (bit b) (num bs), bits_n_num bs) refl
 
 -- a bit string is its length and its number
 pub num_inj : (a b : List Bool) → length a ≡ length b → num a ≡ num b → a ≡ b
-num_inj a b l n = sym (bitsn-num a) ∙ ap₂ bits_n l n ∙ bitsn-num b
+num_inj a b l n = sym (bits_n_num a) ∙ ap₂ bits_n l n ∙ bits_n_num b
 
-pub bitsn-is : (w v : ℕ) (b : List Bool) → length b ≡ w → num b ≡ v → bits_n w v ≡ b
-bitsn-is w v b l n = ap₂ bits_n (sym l) (sym n) ∙ bitsn-num b
+pub bits_n_is : (w v : ℕ) (b : List Bool) → length b ≡ w → num b ≡ v → bits_n w v ≡ b
+bits_n_is w v b l n = ap₂ bits_n (sym l) (sym n) ∙ bits_n_num b
 
 -- ---- parts of a string
 
@@ -154,10 +154,10 @@ num_take_lt w l = lt_of_lt_of_le (num_lt (take w l)) (pow_mono (rw (length-take 
 pub fits_in : (k : ℕ) {w v : ℕ} → v < 2 ^ w → w ≤ k → v < 2 ^ k
 fits_in k h l = lt_of_lt_of_le h (pow_mono {j = k} l)
 
-pub bitsn-zero : (w : ℕ) → bits_n w 0 ≡ replicate w false
+pub bits_n_zero : (w : ℕ) → bits_n w 0 ≡ replicate w false
 unfolding bits_n test_bit
-bitsn-zero zero = refl
-bitsn-zero (suc w) = rw (zero-div (2 ^ w), bitsn-zero w) refl
+bits_n_zero zero = refl
+bits_n_zero (suc w) = rw (zero-div (2 ^ w), bits_n_zero w) refl
 
 -- `(1 << w) - 1`, at 64 bits
 pub ones_of : (w : ℕ) → w < 64 → 1 * 2 ^ w % 2 ^ 64 ≡ 2 ^ w

@@ -9,9 +9,9 @@ use lib.ListN.{length, take, drop, length-append, length-take, length-drop, take
 use lib.Seq.{take-append-add, drop-append-add, take-append-le, drop-append-le, drop-length, take_at, drop_at, drop-drop}
 use lib.Seq.{take-add, slice, length-take-le, length-slice, take-take}
 use Rattle.bits.specs.Bits.{over, num, bits_n, bits_of, bytes_n, AllBytes}
-use Rattle.bits.proofs.Numbers.{bitsn-is}
+use Rattle.bits.proofs.Numbers.{bits_n_is}
 use Rattle.bits.proofs.Bytes.{length_bits_of, bits_of_append, bits_of_take, bits_of_drop, bits_of_bytes_n, bits_of_inj}
-use Rattle.bits.proofs.Bytes.{bytesn-bytes, bytes_append, bytes_drop}
+use Rattle.bits.proofs.Bytes.{bytes_n_bytes, bytes_append, bytes_drop}
 
 pub length_over : (at : ℕ) (n l : List Bool) → at + length n ≤ length l → length (over at n l) ≡ length l
 unfolding over
@@ -122,7 +122,7 @@ bytes_written q x old new e ho hn w =
     ap (λ (y : List Bool). over 0 y (bits_of old)) (sym (bits_of_bytes_n q x e)) ∙ over_bytes 0 b old
     ∙ rw (zero-add (length b)) refl in
     bits_of_inj new (b ++ drop (length b) old) hn
-    (bytes_append b (drop (length b) old) (bytesn-bytes q x) (bytes_drop (length b) old ho)) (w ∙ whole)
+    (bytes_append b (drop (length b) old) (bytes_n_bytes q x) (bytes_drop (length b) old ho)) (w ∙ whole)
 
 -- ---- a part of the whole
 
@@ -164,7 +164,7 @@ copy_more s d from to i w hs hd =
     let p = take i (drop from s) in
     let lq : length q ≡ w = rw (length-take w (drop (from + i) s), length-drop (from + i) s) (omega arith) in
     let lp : length p ≡ i = rw (length-take i (drop from s), length-drop from s) (omega arith) in
-    ap₂ (λ (k : ℕ) (x : List Bool). over (to + k) x (over to p d)) (sym lp) (bitsn-is w (num q) q lq refl)
+    ap₂ (λ (k : ℕ) (x : List Bool). over (to + k) x (over to p d)) (sym lp) (bits_n_is w (num q) q lq refl)
     ∙ over_over to p q d (omega arith)
     ∙ ap (λ (x : List Bool). over to x d)
     (ap (λ (x : List Bool). p ++ take w x) (sym (drop-drop i from s)) ∙ sym (take-add i w (drop from s)))

@@ -12,7 +12,7 @@ use lib.ListN.{get_or, length, take, drop, length-append, length-take, length-dr
 use lib.Seq.{take_at, drop_at, drop-drop, drop-cons, drop-length, take-add, take-take}
 use Rattle.bits.specs.Bits.{num, bits_n, bits_of, over, field, Inside}
 use Rattle.bits.specs.Layout.{Part, part, pack, total, widths, parts_with, parts_in, AllFit, AllNarrow}
-use Rattle.bits.proofs.Numbers.{length_bits_n, num_bits_n, bitsn-is, bitsn-add, bitsn-high, num_take_lt}
+use Rattle.bits.proofs.Numbers.{length_bits_n, num_bits_n, bits_n_is, bits_n_add, bits_n_high, num_take_lt}
 use Rattle.bits.proofs.Numbers.{drop_of_take}
 use Rattle.bits.proofs.Bytes.{length_bits_of}
 use Rattle.bits.proofs.Over.{over_over}
@@ -64,7 +64,7 @@ pack_read at [] b h = refl
 pack_read at (w ∷ ws) b h =
     let t = total (parts_in (at + w) ws b) in
     let l : length (take w (drop at b)) ≡ w = rw (length-take w (drop at b), length-drop at b) (omega arith) in
-    ap₂ (λ (x y : List Bool). x ++ y) (bitsn-is w (field at w b) (take w (drop at b)) l refl)
+    ap₂ (λ (x y : List Bool). x ++ y) (bits_n_is w (field at w b) (take w (drop at b)) l refl)
     (pack_read (at + w) ws b (omega arith) ∙ ap (take t) (sym (drop-drop w at b)))
     ∙ sym (take-add w t (drop at b))
 
@@ -100,7 +100,7 @@ module _ {w v : ℕ} {ws vs out : List ℕ} {goal : List Bool} {to n acc : ℕ}
       let code : bit_or (acc * 2 ^ w % 2 ^ 64) v ≡ acc * 2 ^ w + v =
       rw (shl_exact {a = acc} n w 64 s.held (omega arith), or_shifted acc w v lt) refl in
       let two : bits_n (n + w) (acc * 2 ^ w + v) ≡ bits_n n acc ++ bits_n w v =
-      rw (bitsn-add n w (acc * 2 ^ w + v), high acc w lt, bitsn-high w acc v) refl in
+      rw (bits_n_add n w (acc * 2 ^ w + v), high acc w lt, bits_n_high w acc v) refl in
       record {
         paired = omega arith;
         narrow = s.narrow.1;

@@ -15,7 +15,7 @@ use Rattle.bits.specs.Bits.{num, bits_of}
 use Rattle.bits.specs.Fill.{before, strip, found_at}
 use Rattle.bits.specs.declared.Found.{Found}
 use Rattle.bits.specs.declared.Found.TheVariants.{At, Nothing}
-use Rattle.bits.proofs.Numbers.{bitsn-zero, bitsn-is, num_low, num_lt, fits_in}
+use Rattle.bits.proofs.Numbers.{bits_n_zero, bits_n_is, num_low, num_lt, fits_in}
 use Rattle.bits.proofs.Bytes.{length_bits_of, num_byte_shr}
 use Rattle.bits.proofs.Filling.{strip_at, strip_zeros, strip_lt, fill_start}
 
@@ -49,7 +49,7 @@ trailing_low (suc w) v h l =
 module _ (b : List Bool) where
   -- no 1: the number is 0
   num_none : num b ≡ 0 → strip b ≡ none
-  num_none e = rw (sym (bitsn-is (length b) 0 b refl e) ∙ bitsn-zero (length b)) (strip_zeros (length b))
+  num_none e = rw (sym (bits_n_is (length b) 0 b refl e) ∙ bits_n_zero (length b)) (strip_zeros (length b))
 
   -- a 1: so many 0s after the last one as the number ends with
   num_some : (w : ℕ) → 0 < num b → length b ≤ w
@@ -63,7 +63,7 @@ module _ (b : List Bool) where
       let k = n - suc t in
       let e : k + suc t ≡ n = omega arith in
       let end : drop k b ≡ true ∷ replicate t false =
-      sym (bitsn-is (suc t) (2 ^ t) (drop k b) (rw (length-drop k b) (omega arith)) (sym (num_low b k (suc t) e) ∙ low))
+      sym (bits_n_is (suc t) (2 ^ t) (drop k b) (rw (length-drop k b) (omega arith)) (sym (num_low b k (suc t) e) ∙ low))
       ∙ fill_start t in (
         take k b,
         ap strip (sym (take-append-drop k b) ∙ ap (λ (x : List Bool). take k b ++ x) end)

@@ -11,7 +11,7 @@ use lib.Bits.{bit_and, and_mask}
 use lib.ListN.{length, take, drop, set, length-set, length-append, length-drop, take-append-drop}
 use lib.Seq.{take-set-le, take-take, set_split, drop_at, length-take-le, slice}
 use Rattle.bits.specs.Bits.{over, num, bits_n, bits_of}
-use Rattle.bits.proofs.Numbers.{length_bits_n, num_append, bitsn-add, bitsn-mod, bitsn-is, num_shr, num_low}
+use Rattle.bits.proofs.Numbers.{length_bits_n, num_append, bits_n_add, bits_n_mod, bits_n_is, num_shr, num_low}
 use Rattle.bits.proofs.Numbers.{num_bits_n}
 use Rattle.bits.proofs.Bytes.{bits_of_take, bits_of_drop, bits_of_append, length_bits_of, length_bits_of_slice}
 use Rattle.bits.proofs.Bytes.{bits_of_slice}
@@ -62,10 +62,10 @@ module _ (old : List ℕ) (first last v : ℕ) (o : first ≤ last) (h : last �
             (ap (drop j) (set_split out j b inside)
             ∙ drop_at (take j out) (b ∷ drop (suc j) out) j (length-take-le j out (omega arith)))
             ∙ ap₂ (λ (x y : List Bool). x ++ y)
-            (ap (bits_n 8) (and_mask rest 8) ∙ bitsn-mod 8 rest ∙ ap (bits_n 8) s.left) tl
+            (ap (bits_n 8) (and_mask rest 8) ∙ bits_n_mod 8 rest ∙ ap (bits_n 8) s.left) tl
             ∙ sym (append_assoc (bits_n 8 (v / 2 ^ k)) (bits_n k v) (bits_of (drop last old)))
             ∙ ap (λ (x : List Bool). x ++ bits_of (drop last old))
-            (sym (bitsn-add 8 k v) ∙ ap (λ (n : ℕ). bits_n n v) (sym ek));
+            (sym (bits_n_add 8 k v) ∙ ap (λ (n : ℕ). bits_n n v) (sym ek));
         left = ap (λ (x : ℕ). x / 2 ^ 8) s.left ∙ shr-shr v k 8 ∙ ap (λ (n : ℕ). v / 2 ^ n) (add_comm k 8 ∙ sym ek);
       }
 
@@ -124,7 +124,7 @@ put_field s at w v f t r h k l o er lt =
     let e : 8 * f + j ≡ at = omega arith in
     let is : bits_n (8 * (t - f)) (num m / 2 ^ (w + r) * 2 ^ (w + r) + (v * 2 ^ r + num m % 2 ^ r))
     ≡ over j (bits_n w v) m =
-    bitsn-is (8 * (t - f)) _ (over j (bits_n w v) m) (length_over j (bits_n w v) m (omega arith) ∙ n)
+    bits_n_is (8 * (t - f)) _ (over j (bits_n w v) m) (length_over j (bits_n w v) m (omega arith) ∙ n)
     (num_over m j w r v (omega arith) lt) in
     ap (λ (x : List Bool). over (8 * f) x (bits_of s)) (is ∙ ap (over j (bits_n w v)) (bits_of_slice f t s))
     ∙ over_part (8 * f) (8 * t) (bits_of s) (omega arith) (omega arith) j (bits_n w v) (omega arith)

@@ -12,7 +12,7 @@ use borrow.Author.Tests.{ne_eqb, leb-true, leb-false}
 use Rattle.bits.specs.Bits.{bits_n, over}
 use Rattle.bits.specs.Fill.{fill_bits, filled}
 use Rattle.bits.specs.Layout.{pack, AllFit, AllNarrow}
-use Rattle.bits.proofs.Numbers.{bitsn-zero, take_of_drop}
+use Rattle.bits.proofs.Numbers.{bits_n_zero, take_of_drop}
 use Rattle.bits.proofs.Over.{over_over}
 use Rattle.bits.proofs.Filling.{length_fill_bits, length_filled}
 use Rattle.bits.proofs.Packing.{length_pack}
@@ -40,7 +40,7 @@ room_put at count room m b e h l =
     let lf : length f ≡ room - length m = length_fill_bits (room - length m) in
     let lm : length (m ++ f) ≡ room = length-append m f ∙ omega arith in
     let s : at + room - (at + count) ≡ room - length m = omega arith in
-    rw (s, bitsn-zero 4, ← e)
+    rw (s, bits_n_zero 4, ← e)
     (ap (over (at + room) (replicate 4 false)) (over_over at m f b (omega arith))
     ∙ ap (λ (x : ℕ). over (at + x) (replicate 4 false) (over at (m ++ f) b)) (sym lm)
     ∙ over_over at (m ++ f) (replicate 4 false) b (omega arith))

@@ -11,7 +11,7 @@ use borrow.Author.Tests.{le-leb, lt-ltb, eq-eqb}
 use Rattle.bits.specs.Bits.{num, bits_n, bits_of, bytes_n, field, AllBytes}
 use Rattle.bits.specs.Fill.{filled}
 use Rattle.bits.specs.Layout.{pack, parts_in, total, element}
-use Rattle.bits.proofs.Numbers.{num_take_lt, bitsn-is, bitsn-zero}
+use Rattle.bits.proofs.Numbers.{num_take_lt, bits_n_is, bits_n_zero}
 use Rattle.bits.proofs.Packing.{pack_read}
 use Rattle.blocks.specs.Faults.{first_of}
 use Rattle.blocks.specs.Widths.{entry_of, width_of, run_fits}
@@ -29,7 +29,7 @@ use Rattle.blocks.specs.declared.header.Header.{Header}
 use Rattle.blocks.proofs.FaultLaws.{chain_split}
 use Rattle.blocks.proofs.RuleLaws.{SyncHolds, sync_holds, BodyHolds, body_holds}
 use Rattle.build.proofs.RangeLaws.{InRange}
-use Rattle.bits.proofs.Bytes.{length_bits_of, bits_of_append, bytesn-bits_of, bytes_append}
+use Rattle.bits.proofs.Bytes.{length_bits_of, bits_of_append, bytes_n_bits_of, bytes_append}
 use Rattle.blocks.proofs.RoomLaws.{refill}
 use Rattle.blocks.proofs.WidthLaws.{width_alone, entry_le}
 
@@ -108,8 +108,8 @@ module _ (b : List Bool) (l : length b ≡ 128) (f₀ : fragmented_in b ≡ 0) (
       let front : pack (header_parts (body_of b).fill 0 0 (body_of b).countdown g) ≡ take first b =
       ap pack parts_again ∙ pack_read 0 w b (omega arith) ∙ ap (λ (n : ℕ). take n b) tot in
       let zeros : replicate 4 false ≡ drop 124 b =
-      sym (bitsn-zero 4) ∙ ap (bits_n 4) (sym pad)
-      ∙ bitsn-is 4 (field 124 4 b) (take 4 (drop 124 b))
+      sym (bits_n_zero 4) ∙ ap (bits_n 4) (sym pad)
+      ∙ bits_n_is 4 (field 124 4 b) (take 4 (drop 124 b))
       (rw (length-take 4 (drop 124 b), length-drop 124 b) (omega arith)) refl
       ∙ take_all 4 (drop 124 b) (rw (length-drop 124 b) (omega arith)) in
       let whole : take first b ++ (inside ++ drop 124 b) ≡ b =
@@ -230,7 +230,7 @@ module _ (s h : List ℕ) (good : (read_header s h).fault ≡ 0) (plain : (read_
   table : width_of (entry_of fields.message) (bits_n fields.width fields.elements) ≡ fields.width
   unfolding body_of message_in width_in
   table =
-      rw (bitsn-is w (num (take w run)) (take w run) run_length refl)
+      rw (bits_n_is w (num (take w run)) (take w run) run_length refl)
       (width_alone (message_in at H) (take w run) (drop w run) (rw (take-append-drop w run) (sym run_length))
       ∙ run_length)
 
@@ -291,4 +291,4 @@ module _ (s h : List ℕ) (good : (read_header s h).fault ≡ 0) (plain : (read_
         append-nil (S ++ H),
         ← bits_of_append s h,
       )
-      (ap₂ bytes_n (sym l) (sym (append-nil (bits_of (s ++ h)))) ∙ bytesn-bits_of (s ++ h) [] (bytes_append s h hs hh))
+      (ap₂ bytes_n (sym l) (sym (append-nil (bits_of (s ++ h)))) ∙ bytes_n_bits_of (s ++ h) [] (bytes_append s h hs hh))

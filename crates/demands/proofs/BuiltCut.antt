@@ -10,7 +10,7 @@ use lib.Seq.{take_all, take-add, drop-drop}
 use borrow.Author.Tests.{lt-leb}
 use Rattle.bits.specs.Bits.{bits_of, AllBytes}
 use Rattle.bits.specs.Layout.{pack}
-use Rattle.bits.proofs.Bytes.{bits_of_append, bytesn-bytes, bytes_append, bits_of_inj}
+use Rattle.bits.proofs.Bytes.{bits_of_append, bytes_n_bytes, bytes_append, bits_of_inj}
 use Rattle.bits.proofs.Runs.{join_assoc}
 use Rattle.blocks.specs.Sync.{sync_parts}
 use Rattle.blocks.specs.Slots.{fits_header}
@@ -88,7 +88,7 @@ frags_bits (suc n) r =
 frags_are_bytes : (bs : Line (List Bool)) → AllBytes (frags_bytes bs)
 frags_are_bytes start = tt
 frags_are_bytes (bs ▸ b) =
-    bytes_append (frags_bytes bs) (block_bytes 0 b) (frags_are_bytes bs) (bytesn-bytes 34 (continuation_block 0 b))
+    bytes_append (frags_bytes bs) (block_bytes 0 b) (frags_are_bytes bs) (bytes_n_bytes 34 (continuation_block 0 b))
 
 -- ---- The cut that a build makes.
 
@@ -159,12 +159,12 @@ module _ (c : Call) (r : InRange c) (l : 124 < c.n + h c) (few : k c ≤ 15) whe
       let a = frags_bytes cut.blocks in
       let b = block_bytes 1 cut.last in
       bytes_append (header_bytes c cut) (a ++ b)
-      (bytes_append (sch_s_lem c r cut) (sch_h_lem c r cut) (bytesn-bytes 8 _) (bytesn-bytes 16 _))
-      (bytes_append a b (frags_are_bytes cut.blocks) (bytesn-bytes 34 (continuation_block 1 cut.last)))
+      (bytes_append (sch_s_lem c r cut) (sch_h_lem c r cut) (bytes_n_bytes 8 _) (bytes_n_bytes 16 _))
+      (bytes_append a b (frags_are_bytes cut.blocks) (bytes_n_bytes 34 (continuation_block 1 cut.last)))
 
   pub as_built : (x : Cut c) × (built c ≡ cut_bytes c x)
   as_built = (
     cut,
-    bits_of_inj (built c) (cut_bytes c cut) (bytesn-bytes _ _) cut_are_bytes
+    bits_of_inj (built c) (cut_bytes c cut) (bytes_n_bytes _ _) cut_are_bytes
         (built_bits_lem c r few ∙ sym cut_bits),
   )

@@ -12,7 +12,7 @@ use Rattle.history.specs.History.{History, final, InTurn, Unbroken, frames, Copi
 use Rattle.history.specs.declared.Place.{Place}
 use Rattle.history.proofs.Lines.{made_of, each-⧺}
 use Rattle.history.proofs.Verdicts.{absurd_bool}
-use Rattle.reports.specs.Lent.{Lent, sch_hin, raw_of, header_from, header_in_lent}
+use Rattle.reports.specs.Lent.{Lent, sch_h_in, raw_of, header_from, header_in_lent}
 use Rattle.reports.proofs.Readings.{well_read}
 use Rattle.reports.proofs.FlagLaws.{same_bits, heard_short, short_heard}
 use Rattle.receiver.specs.Reached.{report_of, reports}
@@ -39,8 +39,8 @@ on_turn : (before : History) (r : Report) (since : History) (q : Place) → q �
 on_turn before r start q e = e
 on_turn before r (since ▸ x) q e = e
 
-long : (l : Lent) → (header_in_lent l).fault ≡ 0 → length (sch_hin l) ≡ 16
-long l z = (well_read l.frame l.slot (take 8 l.blocks) (sch_hin l) z).long
+long : (l : Lent) → (header_in_lent l).fault ≡ 0 → length (sch_h_in l) ≡ 16
+long l z = (well_read l.frame l.slot (take 8 l.blocks) (sch_h_in l) z).long
 
 module _ (c : HearCall) where
   in_bits : Copies (history c) (current c) → CopiesBits c
@@ -57,7 +57,7 @@ module _ (c : HearCall) where
       short_is i.report.heard w k.alike in
       let there = heard_short s l _ _ (ap (λ (r : Report). r.heard) (sym p.member_is) ∙ z) w in
       let here = heard_short s c.report y.header y.countdown y.holds y.for_us in
-      let raw : raw_of (sch_hin l) ≡ raw_of (sch_hin c.report) =
+      let raw : raw_of (sch_h_in l) ≡ raw_of (sch_h_in c.report) =
       ap (λ (h : Header). h.raw) (sym there.header ∙ i.brings.0) ∙ k.same
       ∙ ap (λ (h : Header). h.raw) here.header in
       record {
@@ -75,7 +75,7 @@ module _ (c : HearCall) where
               ∙ ap₂ (λ (r : Report) (h : History). next (final r.place h)) p.member_is p.later_is,
         );
         same =
-            same_bits (sch_hin l) (sch_hin c.report) (long l there.brings.well)
+            same_bits (sch_h_in l) (sch_h_in c.report) (long l there.brings.well)
             (long c.report here.brings.well) raw;
         counted =
             sym there.countdown ∙ i.brings.1 ∙ k.counted
@@ -91,7 +91,7 @@ module _ (c : HearCall) where
       let split : history c ≡ (reports s b.before ▸ r) ⧺ reports s b.since =
       ap (reports s) b.split ∙ each-⧺ (report_of s) (b.before ▸ l) b.since in
       record {
-        header = header_from s (sch_hin c.report) (header_in_lent c.report);
+        header = header_from s (sch_h_in c.report) (header_in_lent c.report);
         countdown = (header_in_lent c.report).countdown;
         holds = short_heard s c.report b.here;
         for_us = b.here.for_us;
@@ -99,7 +99,7 @@ module _ (c : HearCall) where
             record {
               earlier =
                   record {
-                    header = header_from s (sch_hin l) (header_in_lent l);
+                    header = header_from s (sch_h_in l) (header_in_lent l);
                     countdown = (header_in_lent l).countdown;
                     since = reports s b.since;
                   };

@@ -15,7 +15,7 @@ use Rattle.history.specs.Slots.{no_fields, no_loss, Report}
 use Rattle.history.specs.History.{History, InTurn, Unbroken, frames, NotFragmented, Closes, Singles, Opens, Keeps}
 use Rattle.history.specs.History.{Copies, Drops, IsAcknowledged, Loses}
 use Rattle.history.specs.declared.Lost.{Lost}
-use Rattle.reports.specs.Lent.{Lent, Event, uncounted, sch_hin, header_in_lent, fault_in, BringsShort}
+use Rattle.reports.specs.Lent.{Lent, Event, uncounted, sch_h_in, header_in_lent, fault_in, BringsShort}
 use Rattle.reports.specs.declared.unit.Settings.{Settings}
 use Rattle.receiver.specs.View.{plain_answer}
 use Rattle.receiver.specs.Reached.{report_of, reports, receiver_at, Canonical}
@@ -53,7 +53,7 @@ pub record CopiesBits (c : HearCall) : Type 0 where
   pub here : BringsShort c.settings c.report
   pub there : BringsShort c.settings first
   pub turns : InTurn (report_of c.settings first).place (reports c.settings (since ▸ c.report))
-  pub same : uncounted (bits_of (sch_hin first)) ≡ uncounted (bits_of (sch_hin c.report))
+  pub same : uncounted (bits_of (sch_h_in first)) ≡ uncounted (bits_of (sch_h_in c.report))
   pub counted :
       (header_in_lent first).countdown ≡ (header_in_lent c.report).countdown + frames (reports c.settings (since ▸ c.report))
 

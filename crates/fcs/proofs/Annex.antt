@@ -6,7 +6,7 @@ use Prim.Native.Nat.{◌+◌}
 use native.Mathlib.Omega.{arith}
 use lib.ListN.{length, length-append, length-map}
 use Rattle.bits.specs.Bits.{num, bits_n, test_bit}
-use Rattle.bits.proofs.Numbers.{length_bits_n, bitsn-is}
+use Rattle.bits.proofs.Numbers.{length_bits_n, bits_n_is}
 use Rattle.fcs.specs.Polynomials.{zeros, quotient, product, Divided}
 use Rattle.fcs.specs.Annex.{generator, started, remainder_of, fcs_of}
 use Rattle.fcs.proofs.Polynomials.{length_remainder}
@@ -55,4 +55,4 @@ length_fcs m = length-map (remainder_of (started m)) not ∙ length_remainder_of
 
 -- and they are those of its number
 pub fcs_bits : (m : List Bool) → bits_n 32 (num (fcs_of m)) ≡ fcs_of m
-fcs_bits m = bitsn-is 32 (num (fcs_of m)) (fcs_of m) (length_fcs m) refl
+fcs_bits m = bits_n_is 32 (num (fcs_of m)) (fcs_of m) (length_fcs m) refl

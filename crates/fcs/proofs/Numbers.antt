@@ -12,7 +12,7 @@ use lib.Bits.{bit_xor}
 use lib.Arith.{lt-one}
 use lib.Pow.{pow_pos, pow_mono, ones_lt, shr-shr, shr_le, shr_lt, shl_exact}
 use Rattle.bits.specs.Bits.{bit, num, bits_n, bits_of}
-use Rattle.bits.proofs.Numbers.{length_bits_n, num_bits_n, num_shr, bitsn-is, bitsn-add, bitsn-zero, fits_in}
+use Rattle.bits.proofs.Numbers.{length_bits_n, num_bits_n, num_shr, bits_n_is, bits_n_add, bits_n_zero, fits_in}
 use Rattle.bits.proofs.Bytes.{length_bits_of, bits_of_drop}
 use Rattle.fcs.specs.Polynomials.{zeros, mixed}
 use Rattle.fcs.specs.Annex.{started, remainder_of, fcs_of}
@@ -35,7 +35,7 @@ turns_code k v small h =
     let l : length (drop k c ++ zeros k) ≡ 32 = length_zeros_after (drop k c) k ∙ omega (arith, length-drop k c) in
     let first : num (take k c) ≡ i =
     sym (num_shr c k (32 - k) (omega arith)) ∙ ap (λ (x : ℕ). x / 2 ^ (32 - k)) n in
-    let out : take k c ≡ bits_n k i = sym (bitsn-is k i (take k c) (length-take k c ∙ omega arith) first) in
+    let out : take k c ≡ bits_n k i = sym (bits_n_is k i (take k c) (length-take k c ∙ omega arith) first) in
     ap num (turns_parts k c e h)
     ∙ num_mixed (remainder_of (take k c)) (drop k c ++ zeros k) (length_remainder_of (take k c) ∙ sym l)
     ∙ ap₂ bit_xor
@@ -48,9 +48,9 @@ few_rule table k i f h small =
     let j = 4 - k in
     let e : 4 ≡ j + k = omega arith in
     let z : i / 2 ^ k ≡ 0 = lt-one (shr_lt 0 k (rw (zero-add k) small)) in
-    let high : bits_n j (i / 2 ^ k) ≡ zeros j = ap (bits_n j) z ∙ bitsn-zero j in
+    let high : bits_n j (i / 2 ^ k) ≡ zeros j = ap (bits_n j) z ∙ bits_n_zero j in
     let b : bits_n 4 i ≡ zeros j ++ bits_n k i =
-    ap (λ (w : ℕ). bits_n w i) e ∙ bitsn-add j k i ∙ ap (λ (x : List Bool). x ++ bits_n k i) high in
+    ap (λ (w : ℕ). bits_n w i) e ∙ bits_n_add j k i ∙ ap (λ (x : List Bool). x ++ bits_n k i) high in
     f.entry i (fits_in 4 small h) ∙ ap num (ap remainder_of b ∙ remainder_after j (bits_n k i))
 
 -- the k bits that go out
@@ -106,7 +106,7 @@ after_code c x k hc hx hk =
     let lm : length m ≡ 32 = length_mixed (bits_n 32 c) t (omega arith) ∙ lc in
     let v : num m ≡ bit_xor c (placed x k) =
     num_mixed (bits_n 32 c) t (lc ∙ sym lt) ∙ ap₂ bit_xor (num_bits_n 32 c hc) (num_placed x k hx hk) in
-    ap₂ turns (sym lb) (bitsn-is 32 (bit_xor c (placed x k)) m lm v)
+    ap₂ turns (sym lb) (bits_n_is 32 (bit_xor c (placed x k)) m lm v)
     ∙ sym (fed_turns (bits_n 32 c) b (32 - k) lc (omega arith))
 
 -- in two goes, the first of j bits
@@ -119,7 +119,7 @@ twice_code c x k j p q hc hx hk hj ep eq =
     let l : length v ≡ 32 = length_bits_n 32 (bit_xor c (placed x k)) in
     eq
     ∙ ap num
-    (ap (turns (k - j)) (bitsn-is 32 p (turns j v) (length_turns j v l) (sym ep))
+    (ap (turns (k - j)) (bits_n_is 32 p (turns j v) (length_turns j v l) (sym ep))
     ∙ sym (turns_add j (k - j) v l)
     ∙ ap (λ (i : ℕ). turns i v) e
     ∙ after_code c x k hc hx hk)
@@ -159,7 +159,7 @@ more_code s c i k v r e hk h ev er =
     let more : take (8 * i + k) (bits_of s) ≡ b ++ take k x =
     take-add (8 * i) k (bits_of s) ∙ ap (λ (y : List Bool). b ++ y) (ap (take k) rest ∙ front) in
     er ∙ ap num
-    (ap (λ (y : List Bool). fed y (take k x)) (bitsn-is 32 v (fed c b) (length_fed c b e) (sym ev))
+    (ap (λ (y : List Bool). fed y (take k x)) (bits_n_is 32 v (fed c b) (length_fed c b e) (sym ev))
     ∙ sym (fed_append c b (take k x))
     ∙ ap (fed c) (sym more))
 

@@ -23,7 +23,7 @@ use Rattle.blocks.specs.declared.header.Header.{Header}
 use Rattle.blocks.specs.declared.continuation.Continuation.{Continuation}
 use Rattle.history.specs.Slots.{Heard, nothing}
 use Rattle.history.proofs.Verdicts.{absurd_bool}
-use Rattle.reports.specs.Lent.{Lent, brought, unfaulted, sch_hin, header_in_lent, header_heard, block_heard, heard}
+use Rattle.reports.specs.Lent.{Lent, brought, unfaulted, sch_h_in, header_in_lent, header_heard, block_heard, heard}
 use Rattle.reports.specs.Lent.{heard_slot, report_rules, OfReading, fault_in}
 use Rattle.reports.specs.declared.unit.Settings.{Settings}
 
@@ -118,7 +118,7 @@ reading_fault l = by_kind (eqb l.kind 1) refl
         → OfReading (cond two (header_in_lent l).fault (cond three (read_continuation l.blocks).fault 0))
     by_blocks true three e =
         let n = eqb-true (length l.blocks) 24 e in
-        header_fault_lem l.frame l.slot (take 8 l.blocks) (sch_hin l)
+        header_fault_lem l.frame l.slot (take 8 l.blocks) (sch_h_in l)
         (rw (length-take 8 l.blocks) (omega (arith, n))) (rw (length-drop 8 l.blocks) (omega (arith, n)))
     by_blocks false true e = block_fault l.blocks (eqb-true (length l.blocks) 34 e)
     by_blocks false false e = absurd_bool e
@@ -141,7 +141,7 @@ unread s l = go (eqb l.kind 2) (eqb l.kind 3)
   where
     go : (two three : Bool)
         → (cond two (header_in_lent l).fault (cond three (read_continuation l.blocks).fault 0) ≡ 0 → ⊥)
-        → cond two (header_heard s (sch_hin l) (header_in_lent l))
+        → cond two (header_heard s (sch_h_in l) (header_in_lent l))
         (cond three (block_heard l.blocks (read_continuation l.blocks)) nothing) ≡ nothing
     go true three k = unread_as (header_in_lent l).fault _ k
     go false true k = unread_as (read_continuation l.blocks).fault _ k

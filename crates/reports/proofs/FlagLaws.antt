@@ -21,7 +21,7 @@ use Rattle.history.specs.Slots.{Header, Heard, nothing, fragmented, unfragmented
 use Rattle.history.specs.Slots.{header_in, more_in, countdown_in, is_fragmented}
 use Rattle.history.proofs.Verdicts.{absurd_bool}
 use Rattle.reports.specs.Lent.{Lent, uncounted, raw_of, unfaulted, header_from, header_in_lent, header_heard}
-use Rattle.reports.specs.Lent.{sch_hin, block_heard, heard, BringsShort}
+use Rattle.reports.specs.Lent.{sch_h_in, block_heard, heard, BringsShort}
 use Rattle.reports.specs.declared.unit.Settings.{Settings}
 use Rattle.reports.proofs.Readings.{WellRead, well_read}
 
@@ -175,7 +175,7 @@ is_short (end b) = false
 -- What it is heard as says what was lent.
 pub record HeardShort (s : Settings) (l : Lent) (h : Header) (f : ℕ) : Type 0 where
   pub brings : BringsShort s l
-  pub header : h ≡ header_from s (sch_hin l) (header_in_lent l)
+  pub header : h ≡ header_from s (sch_h_in l) (header_in_lent l)
   pub countdown : f ≡ (header_in_lent l).countdown
 
 short_header : (fault more f g : ℕ) (flag : Bool) (x h : Header)
@@ -196,13 +196,13 @@ unfolding heard
 heard_short s l h f e w = go (eqb l.kind 2) (eqb l.kind 3) refl e
   where
     go : (two three : Bool) → eqb l.kind 2 ≡ two
-        → cond two (header_heard s (sch_hin l) (header_in_lent l))
+        → cond two (header_heard s (sch_h_in l) (header_in_lent l))
         (cond three (block_heard l.blocks (read_continuation l.blocks)) nothing) ≡ unfragmented h f
         → HeardShort s l h f
     go true three k e =
         let r = header_in_lent l in
         let (z, flag, x, g) = short_header r.fault (r.count - 1) r.countdown f (eqb r.fragmented 1) _ h e in
-        let low = (well_read l.frame l.slot (take 8 l.blocks) (sch_hin l) z).low in
+        let low = (well_read l.frame l.slot (take 8 l.blocks) (sch_h_in l) z).low in
         let no = eqb-false r.fragmented 1 flag in
         record {
           brings = record {
@@ -220,6 +220,6 @@ heard_short s l h f e w = go (eqb l.kind 2) (eqb l.kind 3) refl e
     go false false k e = absurd_bool (ap is_short e)
 
 pub short_heard : (s : Settings) (l : Lent) → BringsShort s l
-    → heard s l ≡ unfragmented (header_from s (sch_hin l) (header_in_lent l)) (header_in_lent l).countdown
+    → heard s l ≡ unfragmented (header_from s (sch_h_in l) (header_in_lent l)) (header_in_lent l).countdown
 unfolding heard
 short_heard s l b = rw (b.kind, b.well, b.unfragmented) refl

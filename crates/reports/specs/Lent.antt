@@ -83,15 +83,15 @@ block_heard b r =
     let m = bits_of_message (block_message (bits_of b)) in unfaulted r.fault (cond (eqb r.last 1) (end m) (frag m))
 
 -- The SCH/H of a report of kind 2, and its header, as it reads.
-abbrev pub sch_hin : Lent → List ℕ
-sch_hin l = drop 8 l.blocks
+abbrev pub sch_h_in : Lent → List ℕ
+sch_h_in l = drop 8 l.blocks
 
 abbrev pub header_in_lent : Lent → read.Header
-header_in_lent l = read_reported l.frame l.slot (take 8 l.blocks) (sch_hin l)
+header_in_lent l = read_reported l.frame l.slot (take 8 l.blocks) (sch_h_in l)
 
 unfoldable pub heard : Settings → Lent → Heard
 heard s l =
-    cond (eqb l.kind 2) (header_heard s (sch_hin l) (header_in_lent l))
+    cond (eqb l.kind 2) (header_heard s (sch_h_in l) (header_in_lent l))
     (cond (eqb l.kind 3) (block_heard l.blocks (read_continuation l.blocks)) nothing)
 
 -- A number that reading the blocks of an accepted report may give, or 0. A report is refused with others: 1, 15 to 17.

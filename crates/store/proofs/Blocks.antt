@@ -11,7 +11,7 @@ use lib.Seq.{take_all, take-take, drop-drop, length-take-le}
 use lib.Bits.{bit_or, or_shifted}
 use lib.Pow.{shl_exact}
 use Rattle.bits.specs.Bits.{bit, num, bits_of, over, field}
-use Rattle.bits.proofs.Numbers.{num_append, num_cut, drop_of_take, bitsn-num, bitsn-is}
+use Rattle.bits.proofs.Numbers.{num_append, num_cut, drop_of_take, bits_n_num, bits_n_is}
 use Rattle.bits.proofs.Bytes.{length_bits_of}
 use Rattle.bits.proofs.Over.{over_drop, length_over}
 use Rattle.store.specs.Store.{halves, without, same_raw}
@@ -39,7 +39,7 @@ is_same a b e = ap₂ ◌&&◌ (eq-eqb a.high b.high (λ i. (e i).high)) (eq-eqb
 -- ---- two numbers lose nothing
 
 num_same : (a b : List Bool) → length a ≡ length b → num a ≡ num b → a ≡ b
-num_same a b l e = sym (bitsn-num a) ∙ bitsn-is (length a) (num a) b (sym l) (sym e)
+num_same a b l e = sym (bits_n_num a) ∙ bits_n_is (length a) (num a) b (sym l) (sym e)
 
 pub halves_same : (a b : List Bool) → length a ≡ length b → halves a ≡ halves b → a ≡ b
 halves_same a b l e =

@@ -11,7 +11,7 @@ use lib.ListN.{take-append-drop, drop_of_length-le}
 use lib.Seq.{take-append-add, take-take, take_at, length-take-le, paste, paste-suc}
 use Rattle.bits.specs.Bits.{num, bits_of, bytes_n, over, AllBytes}
 use Rattle.bits.proofs.Numbers.{drop_of_take}
-use Rattle.bits.proofs.Bytes.{length_bits_of, bits_of_append, bits_of_take, bits_of_drop, length_bytes_n, bytesn-bytes}
+use Rattle.bits.proofs.Bytes.{length_bits_of, bits_of_append, bits_of_take, bits_of_drop, length_bytes_n, bytes_n_bytes}
 use Rattle.bits.proofs.Bytes.{bits_of_bytes_n, bits_of_inj, bytes_append, bytes_drop}
 use Rattle.bits.proofs.Over.{length_over, over_left}
 use Rattle.store.specs.Store.{store_of, joined_to, message_bytes, handed, first_over}
@@ -145,7 +145,7 @@ first_joined k at m store old mid new ho hn l h s f e =
     let lo : length (over at m b) ≡ 8 * 512 = length_over at m b (omega arith) ∙ lb in
     bits_of_inj new (first_over k (joined_to store at m) old) hn
     (bytes_append (take q (joined_to store at m)) (drop q old)
-    (rw (take_bytes q 512 (over at m b) (omega arith)) (bytesn-bytes q (over at m b))) (bytes_drop q old ho))
+    (rw (take_bytes q 512 (over at m b) (omega arith)) (bytes_n_bytes q (over at m b))) (bytes_drop q old ho))
     (e
     ∙ rw (f, bits_first k store old, over_left at m (take t b) (drop t (bits_of old)) (omega arith)) refl
     ∙ ap (λ (x : List Bool). x ++ drop t (bits_of old)) (sym (take_over t at m b (omega arith) (omega arith)))

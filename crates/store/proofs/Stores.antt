@@ -9,14 +9,14 @@ use lib.ListN.{length, take, drop, replicate, length-append, length-replicate}
 use lib.Seq.{take_at}
 use lib.Pow.{pow_pos}
 use Rattle.bits.specs.Bits.{num, bits_of, bytes_n, over, AllBytes}
-use Rattle.bits.proofs.Numbers.{bitsn-zero, num_bits_n}
-use Rattle.bits.proofs.Bytes.{length_bits_of, length_bytes_n, bytesn-bytes, bits_of_bytes_n, bits_of_inj}
+use Rattle.bits.proofs.Numbers.{bits_n_zero, num_bits_n}
+use Rattle.bits.proofs.Bytes.{length_bits_of, length_bytes_n, bytes_n_bytes, bits_of_bytes_n, bits_of_inj}
 use Rattle.bits.proofs.Over.{length_over, over_right}
 use Rattle.store.specs.Store.{store_of, joined_to}
 
 -- bytes are those of their bits
 pub bytes_are : (n : ℕ) (s : List ℕ) (b : List Bool) → AllBytes s → length b ≡ 8 * n → bits_of s ≡ b → s ≡ bytes_n n b
-bytes_are n s b hs l e = bits_of_inj s (bytes_n n b) hs (bytesn-bytes n b) (e ∙ sym (bits_of_bytes_n n b l))
+bytes_are n s b hs l e = bits_of_inj s (bytes_n n b) hs (bytes_n_bytes n b) (e ∙ sym (bits_of_bytes_n n b l))
 
 -- the bits of a store: those that it holds, and zeros
 abbrev pub padded : List Bool → List Bool
@@ -61,7 +61,7 @@ drop_replicate (suc k) zero a = let e : 0 - suc k ≡ 0 = omega arith in rw e re
 drop_replicate (suc k) (suc n) a = let e : suc n - suc k ≡ n - k = omega arith in rw e (drop_replicate k n a)
 
 num_zeros : (n : ℕ) → num (replicate n false) ≡ 0
-num_zeros n = ap num (sym (bitsn-zero n)) ∙ num_bits_n n 0 (pow_pos n)
+num_zeros n = ap num (sym (bits_n_zero n)) ∙ num_bits_n n 0 (pow_pos n)
 
 -- the bytes of zeros are zeros
 pub bytes_zeros : (n m : ℕ) → bytes_n n (replicate m false) ≡ replicate n 0
