@@ -1,13 +1,13 @@
 #!/usr/bin/env python3
-"""Brings this repository's own names in specs/, proofs/ and clauses to today's spelling: words in snake case, a prime as
-an apostrophe.
+"""Brings this repository's own names in specs/, proofs/ and clauses to today's spelling: words in snake case, a prime
+as an apostrophe.
 
 usage: python3 tools/respell.py          at the top of the repository, once, right after /opt/rattle/port/port.py
        python3 tools/respell.py --list   what would be renamed, and what would fall together
 
 A name is one that a file of specs/ or one right in proofs/ declares or binds; names of the library, types, modules,
-functions and fields of src/, strings, and what the prover itself makes (below proofs/F/) keep theirs. Where two names of
-one file would fall together, it says so and changes nothing.
+functions and fields of src/, strings, and what the prover itself makes (below proofs/F/) keep theirs. Where two names
+of one file fall together, it says so.
 """
 import glob
 import os
@@ -41,7 +41,8 @@ APART_IN = {
 
 NAME = re.compile(r"[^\s(){}\[\];,.:λ∀\"@`?|]+")
 DECLARED = re.compile(
-    r"^\s*(?:abbrev |unfoldable |pub |data |record |ruleset |private |instance )*([^\s(){}:;,.=]+)(?: [^:=\n]*)? ?:(?!=)",
+    r"^\s*(?:abbrev |unfoldable |pub |data |record |ruleset |private |instance )*"
+    r"([^\s(){}:;,.=]+)(?: [^:=\n]*)? ?:(?!=)",
     re.M)
 USED = re.compile(r"^(?:ghost )?(?:pub )?use\s+([^\s{;]+?)\.\{([^}]*)\}", re.M)
 STRING = re.compile(r'b?"(?:[^"\\]|\\.)*"')
