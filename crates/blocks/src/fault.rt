@@ -1,65 +1,126 @@
-// Why a call is refused, or a block counts as nothing heard; 0 is no fault.
-#[derive(Clone, Copy)]
-pub struct Fault {}
+// Why a call is refused, or a block counts as nothing heard.
+ghost use Rattle.std.specs.Prelude.{◌≡◌};
+ghost use Rattle.blocks.specs.Faults.{number_of, refusal};
 
-impl Fault {
+// The faults, by their numbers; 0 is the number of none.
+#[derive(Clone, Copy, PartialEq, Eq)]
+pub enum Fault {
     // A lent block of another length, or an output that is too short.
-    pub const LENGTH: u8 = 1;
+    Length = 1,
 
     // A pad bit is set.
-    pub const PAD: u8 = 2;
+    Pad = 2,
 
     // A system code that is not one of direct mode's (9.3.29).
-    pub const SYSTEM: u8 = 3;
+    System = 3,
 
     // A SYNC PDU type that is not DMAC-SYNC.
-    pub const SYNC_TYPE: u8 = 4;
+    SyncType = 4,
 
     // A communication type that is not direct MS-MS.
-    pub const COMMUNICATION: u8 = 5;
+    Communication = 5,
 
     // Encryption that is not off.
-    pub const ENCRYPTION: u8 = 6;
+    Encryption = 6,
 
     // A block's frame number that is not 1 to 18.
-    pub const FRAME: u8 = 7;
+    Frame = 7,
 
     // A reserved address type.
-    pub const ADDRESS_TYPE: u8 = 8;
+    AddressType = 8,
 
     // A message type without an entry, or a header above 124 bits.
-    pub const MESSAGE_TYPE: u8 = 9;
+    MessageType = 9,
 
     // Fragmented with slot count 0.
-    pub const COUNT: u8 = 10;
+    Count = 10,
 
     // Fill told of, and no 1 in the DM-SDU's room.
-    pub const FILL: u8 = 11;
+    Fill = 11,
 
     // An SCH/F that is neither DMAC-FRAG nor DMAC-END.
-    pub const PDU_TYPE: u8 = 12;
+    PduType = 12,
 
     // A number too large for its field, an absent one not 0, a width that is not the elements', or bits not lent.
-    pub const RANGE: u8 = 13;
+    Range = 13,
 
     // More than fifteen continuation blocks.
-    pub const TOO_LONG: u8 = 14;
+    TooLong = 14,
 
     // A report's frame that is not 1 to 18.
-    pub const REPORT_FRAME: u8 = 15;
+    ReportFrame = 15,
 
     // A report's slot that is not 1 or 3.
-    pub const REPORT_SLOT: u8 = 16;
+    ReportSlot = 16,
 
     // A message buffer under 512 bytes.
-    pub const BUFFER: u8 = 17;
+    Buffer = 17,
 
     // A block whose frame or slot is not the report's.
-    pub const PLACE: u8 = 18;
+    Place = 18,
 
     // Not an SDS-TL message, or too short to tell, or its FCS is wrong.
-    pub const NOT_SDS_TL: u8 = 21;
+    NotSdsTl = 21,
 
     // An SDS-TL message that is shorter than its fixed elements.
+    TooShort = 22,
+}
+
+impl Fault {
+    pub const LENGTH: u8 = 1;
+
+    pub const PAD: u8 = 2;
+
+    pub const SYSTEM: u8 = 3;
+
+    pub const SYNC_TYPE: u8 = 4;
+
+    pub const COMMUNICATION: u8 = 5;
+
+    pub const ENCRYPTION: u8 = 6;
+
+    pub const FRAME: u8 = 7;
+
+    pub const ADDRESS_TYPE: u8 = 8;
+
+    pub const MESSAGE_TYPE: u8 = 9;
+
+    pub const COUNT: u8 = 10;
+
+    pub const FILL: u8 = 11;
+
+    pub const PDU_TYPE: u8 = 12;
+
+    pub const RANGE: u8 = 13;
+
+    pub const TOO_LONG: u8 = 14;
+
+    pub const REPORT_FRAME: u8 = 15;
+
+    pub const REPORT_SLOT: u8 = 16;
+
+    pub const BUFFER: u8 = 17;
+
+    pub const PLACE: u8 = 18;
+
+    pub const NOT_SDS_TL: u8 = 21;
+
     pub const TOO_SHORT: u8 = 22;
+
+    // Its number, as answers have it.
+    pub fn number(self) -> u8
+        ensures { result ≡ number_of self }
+    {
+        self as u8
+    }
+}
+
+// The number of a test's outcome: that of the fault, 0 where there is none.
+pub fn refusal(tested: Result<(), Fault>) -> u8
+    ensures { result ≡ refusal tested }
+{
+    match tested {
+        Ok(()) => 0,
+        Err(fault) => fault.number(),
+    }
 }
