@@ -250,29 +250,20 @@ pub fn fill(out: &mut [u8], from: usize, to: usize)
     }
 }
 
-// A place, or none.
-#[derive(Clone, Copy)]
-pub enum Found {
-    At(usize),
-    Nothing,
-}
-
 // The last bit that is 1 of those from `from` up to `to`, byte by byte from the end. Of the last byte the bits after
 // the room are left out; in the first one a 1 before the room is none of its own. It calls itself where the room starts
 // within a byte, and so stands in the image once (decision 12).
-pub fn last_one(s: &[u8], from: usize, to: usize) -> Found
+pub fn last_one(s: &[u8], from: usize, to: usize) -> Option<usize>
     requires { Inside (length s.now) from to }
     ensures { result ≡ found_at from (strip (slice from to (bits_of s.now))) }
 {
     let before = from & 7;
     if before != 0 {
-        let Found::At(at) = last_one(s, from - before, to) else {
-            return Found::Nothing;
-        };
+        let at = last_one(s, from - before, to)?;
         if at < from {
-            return Found::Nothing;
+            return None;
         }
-        return Found::At(at);
+        return Some(at);
     }
     let first = from >> 3;
     let mut i = (to + 7) >> 3;
@@ -281,9 +272,9 @@ pub fn last_one(s: &[u8], from: usize, to: usize) -> Found
         i -= 1;
         let byte = s[i] >> after;
         if byte != 0 {
-            return Found::At((i << 3) + 7 - after - (u8::trailing_zeros(byte) as usize));
+            return Some((i << 3) + 7 - after - (u8::trailing_zeros(byte) as usize));
         }
         after = 0;
     }
-    Found::Nothing
+    None
 }
