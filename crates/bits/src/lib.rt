@@ -35,8 +35,8 @@ fn load(s: &[u8]) -> u64
     ensures { result ≡ num (bits_of s.now) }
 {
     let mut acc: u64 = 0;
-    for &x in s {
-        acc = (acc << 8) | u64::from(x);
+    for (i, &x) in s.iter().rev().enumerate() {
+        acc |= u64::from(x) << (8 * i);
     }
     acc
 }
