@@ -77,7 +77,8 @@ pub bytes_n_bits_of : (s : List ℕ) (b : List Bool) → AllBytes s → bytes_n 
 unfolding bytes_n bits_of
 bytes_n_bits_of [] b h = refl
 bytes_n_bits_of (x ∷ xs) b h =
-    let e : (bits_n 8 x ++ bits_of xs) ++ b ≡ bits_n 8 x ++ (bits_of xs ++ b) = append_assoc (bits_n 8 x) (bits_of xs) b in
+    let e : (bits_n 8 x ++ bits_of xs) ++ b ≡ bits_n 8 x ++ (bits_of xs ++ b) =
+    append_assoc (bits_n 8 x) (bits_of xs) b in
     let l : length (bits_n 8 x) ≡ 8 = length_bits_n 8 x in
     ap₂ ◌∷◌
     (ap num (ap (take 8) e ∙ take_at (bits_n 8 x) (bits_of xs ++ b) 8 l) ∙ num_bits_n 8 x h.0)
@@ -155,7 +156,8 @@ loaded_all {left = []} e l = rw l.split l.value
 loaded_all {left = x ∷ xs} e l = absurd (omega arith)
 
 -- one byte as a number
-pub num_byte : (s : List ℕ) (i : ℕ) → i < length s → get_or s i 0 < 256 → num (bits_of (slice i (suc i) s)) ≡ get_or s i 0
+pub num_byte : (s : List ℕ) (i : ℕ) → i < length s → get_or s i 0 < 256
+    → num (bits_of (slice i (suc i) s)) ≡ get_or s i 0
 num_byte s i h b =
     rw (
       slice-cons i (suc i) s 0 (omega arith) h,

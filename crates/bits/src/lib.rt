@@ -1,7 +1,8 @@
 // Bit strings over lent bytes: eight bits to a byte, the first bit highest.
 #![tactic(auto)]
 
-ghost use Rattle.std.specs.Prelude.{ℕ, ◌≡◌, false, ◌+◌, ◌-◌, ◌*◌, ◌/◌, ◌%◌, ◌^◌, ◌≤◌, ◌<◌, min, leb, length, take, drop, replicate};
+ghost use Rattle.std.specs.Prelude.{◌≡◌, false, leb, length, take, drop, replicate};
+ghost use Rattle.std.specs.Prelude.{ℕ, ◌+◌, ◌-◌, ◌*◌, ◌/◌, ◌%◌, ◌^◌, ◌≤◌, ◌<◌, min};
 ghost use Rattle.std.proofs.Math.Seq.{slice};
 ghost use Rattle.std.proofs.Common.{rules};
 ghost use Rattle.bits.specs.Bits.{num, bits_n, bits_of, over, Inside, Got};

@@ -28,7 +28,8 @@ loop-x-preserved c =
     l.invariant (rw (get_or-take (a.n / 8) a.s.now i 0 w) at c.after-c.ensures))
 
 -- the whole bytes came in
-whole : (c : After-loop-x) → c.loop-x.c ≡ num (fed (ones 32 c.args.n) (take (8 * (c.args.n / 8)) (bits_of c.args.s.now)))
+whole : (c : After-loop-x)
+    → c.loop-x.c ≡ num (fed (ones 32 c.args.n) (take (8 * (c.args.n / 8)) (bits_of c.args.s.now)))
 whole c =
     let a = c.args in
     let e : c.loop-x.x-index ≡ a.n / 8 = omega (arith, length-take (a.n / 8) a.s.now) in
