@@ -16,10 +16,14 @@ use Rattle.demands.specs.Demand1.{SettlesBuild, Begins, SettlesReport}
 use Rattle.demands.specs.Demand2.{Call, Builds}
 use Rattle.demands.specs.Demand3.{Answers}
 
--- A call of `build`, by what the message is built from and the output.
+-- A call of `build`, by what it is given.
+abbrev pub call_of : Sync → ℕ → Fields → ℕ → List ℕ → List ℕ → Call
+call_of sync countdown fields n message out =
+    record { sync = sync; countdown = countdown; fields = fields; n = n; message = message; out = out }
+
+-- The same, by what is asked for and the output.
 abbrev pub call_by : Asked → List ℕ → Call
-call_by a out =
-    record { sync = a.sync; countdown = a.countdown; fields = a.fields; n = a.n; message = a.message.now; out = out }
+call_by a out = call_of a.sync a.countdown a.fields a.n a.message.now out
 
 -- Demands 1 and 2 of it.
 pub record BuildsAs (c : Call) (r : Built) (after : List ℕ) : Type 0 where
