@@ -4,7 +4,7 @@ use native.Mathlib.Omega.{arith}
 use lib.ListN.{length}
 use Rattle.bits.proofs.Packing.{none_put, next_narrow, joined_next, waits_next, all_put}
 use Rattle.bits.proofs.put_all.Goals as goal
-use Rattle.bits.proofs.put_all.Goals.{then-n-w-gt-FIELD, else-n-w-gt-FIELD, After-index-w}
+use Rattle.bits.proofs.put_all.Goals.{then-n-w-gt-FIELD, else-n-w-gt-FIELD, After-from-w}
 
 pub loop-i-init : goal.loop-i-init
 loop-i-init c =
@@ -19,14 +19,14 @@ pub bounds-values-i : goal.bounds-values-i
 bounds-values-i c = let l = c.requires.0 in omega arith
 
 -- the next part's width
-narrow : (c : After-index-w) → c.index-w.result ≤ 56
+narrow : (c : After-from-w) → c.from-w.result ≤ 56
 narrow c =
     let a = c.args in
     let l = c.loop-i in
-    rw c.index-w.ensures (next_narrow a.widths.now a.values.now l.i (omega arith) l.invariant.2)
+    rw c.from-w.ensures (next_narrow a.widths.now a.values.now l.i (omega arith) l.invariant.2)
 
 pub overflow_add-n : goal.overflow_add-n
-overflow_add-n c = let n = narrow (goal.at.overflow_add-n c).After-index-w in omega arith
+overflow_add-n c = let n = narrow (goal.at.overflow_add-n c).After-from-w in omega arith
 
 pub put-requires : goal.put-requires
 put-requires c =
@@ -34,17 +34,17 @@ put-requires c =
 
 pub overflow_shl-acc : goal.overflow_shl-acc
 overflow_shl-acc c =
-    let n = narrow (goal.at.overflow_shl-acc c).After-index-w in omega arith
+    let n = narrow (goal.at.overflow_shl-acc c).After-from-w in omega arith
 
 pub overflow_add-n-else-n-w-gt-FIELD : goal.overflow_add-n-else-n-w-gt-FIELD
 overflow_add-n-else-n-w-gt-FIELD c =
-    let n = narrow (goal.at.overflow_add-n-else-n-w-gt-FIELD c).After-index-w in omega arith
+    let n = narrow (goal.at.overflow_add-n-else-n-w-gt-FIELD c).After-from-w in omega arith
 
 pub loop-i-preserved : goal.loop-i-preserved
 loop-i-preserved c =
     let a = c.args in
     let l = c.loop-i in
-    let e = c.index-w.ensures in
+    let e = c.from-w.ensures in
     elim c.if-n-w-gt-FIELD.branch [
       | then-n-w-gt-FIELD w ↦ (
         omega arith,
