@@ -90,8 +90,8 @@ pub(crate) fn width_at(s: &[u8], at: usize, message: u8) -> usize
     ensures { result ≡ width_of (entry_of message) (drop at (bits_of s.now)) }
 {
     let e = entry_of(message);
-    let first = added_by(bits::get8(s, at + (e.flag as usize), 1), e.adds);
-    let second = added_by(bits::get8(s, at + (first + (e.flag2 as usize)), 1), e.adds2);
+    let first = added_by(bits::get(s, at + (e.flag as usize), 1), e.adds);
+    let second = added_by(bits::get(s, at + (first + (e.flag2 as usize)), 1), e.adds2);
     (e.width as usize) + first + second
 }
 
