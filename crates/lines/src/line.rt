@@ -7,6 +7,13 @@ ghost use Rattle.lines.specs.Lines.{hex_text, rest_of, shown_of, unknown_line};
 
 use std::io::Write;
 
+// What is kept after a record, and how many bytes of a buffer are its line; none where it is too short for its kind.
+#[derive(Clone, Copy)]
+pub struct Told<S> {
+    pub state: S,
+    pub line: Option<usize>,
+}
+
 // What every lent output is filled with before its call.
 pub const BEFORE: u8 = 0x5A;
 
