@@ -86,7 +86,7 @@ fn get_in_byte(s: &[u8], last: usize, k: usize) -> u64
 fn ending(last: usize, w: usize) -> usize
     ensures { result ≡ min w (last % 8 + 1) }
 {
-    least(w, (last & 7) + 1)
+    w.min((last & 7) + 1)
 }
 
 // `get` byte by byte: for fewer than eight bytes.
@@ -120,7 +120,7 @@ fn field(s: &[u8], at: usize, w: usize) -> u64
     if s.len() < 8 {
         return get_few(s, at, w);
     }
-    let first = least(at >> 3, s.len() - 8);
+    let first = (at >> 3).min(s.len() - 8);
     cut(load(&s[first..first + 8]), (first << 3) + 64 - (at + w), w)
 }
 
@@ -190,7 +190,7 @@ pub fn put(out: &mut [u8], at: usize, w: usize, v: u64)
         put_through(out, at, w, v);
         return;
     }
-    let first = least(at >> 3, out.len() - 8);
+    let first = (at >> 3).min(out.len() - 8);
     put_through(&mut out[first..first + 8], at - (first << 3), w, v);
 }
 
@@ -206,10 +206,8 @@ pub fn put_all(out: &mut [u8], at: usize, widths: &[u8], values: &[u64])
     let mut to = at;
     let mut acc: u64 = 0;
     let mut n: usize = 0;
-    let mut i: usize = 0;
-    while i < widths.len() {
-        let w = usize::from(widths[i]);
-        let v = values[i];
+    for (&width, &v) in widths.iter().zip(values) {
+        let w = usize::from(width);
         if FIELD < n + w {
             put(out, to, n, acc);
             to += n;
@@ -219,7 +217,6 @@ pub fn put_all(out: &mut [u8], at: usize, widths: &[u8], values: &[u64])
             acc = (acc << w) | v;
             n += w;
         }
-        i += 1;
     }
     put(out, to, n, acc);
 }
@@ -230,11 +227,9 @@ pub fn copy(src: &[u8], from: usize, dst: &mut [u8], to: usize, n: usize)
     ensures { bits_of dst.new
         ≡ over to (take n (drop from (bits_of src.now))) (bits_of dst.old) }
 {
-    let mut i = 0;
-    while i < n {
-        let w = least(n - i, FIELD);
+    for i in (0..n).step_by(FIELD) {
+        let w = (n - i).min(FIELD);
         put(dst, to + i, w, field(src, from + i, w));
-        i += w;
     }
 }
 
@@ -243,11 +238,9 @@ pub fn clear(out: &mut [u8], from: usize, to: usize)
     requires { Inside (length out.old) from to }
     ensures { bits_of out.new ≡ over from (replicate (to - from) false) (bits_of out.old) }
 {
-    let mut i = from;
-    while i < to {
-        let w = least(to - i, FIELD);
+    for i in (from..to).step_by(FIELD) {
+        let w = (to - i).min(FIELD);
         put(out, i, w, 0);
-        i += w;
     }
 }
 
@@ -257,7 +250,7 @@ pub fn fill(out: &mut [u8], from: usize, to: usize)
     ensures { bits_of out.new ≡ over from (fill_bits (to - from)) (bits_of out.old) }
 {
     if from < to {
-        let w = least(to - from, FIELD);
+        let w = (to - from).min(FIELD);
         put(out, from, w, 1 << (w - 1));
         clear(out, from + w, to);
     }
@@ -279,13 +272,12 @@ pub fn last_one(s: &[u8], from: usize, to: usize) -> Option<usize>
         return Some(at);
     }
     let first = from >> 3;
-    let mut i = (to + 7) >> 3;
-    let mut after = (i << 3) - to;
-    while first < i {
-        i -= 1;
+    let last = (to + 7) >> 3;
+    let mut after = (last << 3) - to;
+    for i in (first..last).rev() {
         let byte = s[i] >> after;
         if byte != 0 {
-            return Some((i << 3) + 7 - after - (u8::trailing_zeros(byte) as usize));
+            return Some((i << 3) + 7 - after - (byte.trailing_zeros() as usize));
         }
         after = 0;
     }

@@ -12,7 +12,7 @@ use Rattle.bits.proofs.field.Goals as goal
 pub returns : goal.returns
 returns c =
     let a = c.args in
-    let f = c.least-first.result in
+    let f = c.min-first.result in
     let part : take (f + 8 - f) (drop f a.s.now) ≡ slice f (f + 8) a.s.now = between_is a.s.now f (f + 8) in
     let e : f * 8 % 2 ^ 64 + 64 - (a.at + a.w) ≡ 8 * (f + 8) - (a.at + a.w) = omega arith in
     record {

@@ -1,8 +1,7 @@
-use mathlib.Core.Path.{◌≡◌, sym, ◌∙◌}
+use mathlib.Core.Path.{◌≡◌}
 use Prim.Native.Nat.{◌+◌, ◌-◌, ◌*◌, ◌%◌, ◌^◌}
 use native.Mathlib.Omega.{arith}
-use lib.ListN.{length, take, drop}
-use borrow.Rule.Slice.PartMut.{put_mid}
+use lib.ListN.{take, drop}
 use Rattle.bits.specs.Bits.{over, bits_n, bits_of}
 use Rattle.bits.proofs.Numbers.{length_bits_n}
 use Rattle.bits.proofs.Writing.{put_part}
@@ -12,7 +11,7 @@ pub returns : goal.returns
 returns c =
     let a = c.args in
     let s = a.out.now in
-    let f = c.least-first.result in
+    let f = c.min-first.result in
     let n = c.put_through-2.new.out in
     let k : f + 8 - f ≡ 8 = omega arith in
     let e : a.at - f * 8 % 2 ^ 64 ≡ a.at - 8 * f = omega arith in
