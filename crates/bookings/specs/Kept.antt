@@ -1,9 +1,8 @@
 -- The record that is kept, as a function of the list of transfers.
-use Rattle.std.specs.Prelude.{◌≡◌, Bool, true, false, cond, List, [], ◌∷◌, ◌++◌, map, ℕ, ◌+◌, ◌*◌, ◌<◌, ◌^◌, min, eqb, length, take, replicate}
+use Rattle.std.specs.Prelude.{◌≡◌, Bool, true, false, cond, List, [], ◌∷◌, ◌++◌, map, ℕ, ◌+◌, ◌*◌, ◌<◌, ◌^◌, min, eqb, length, take, replicate, Option, Some, None}
 use Rattle.history.specs.Line.{Line, Every}
 use Rattle.bookings.specs.Pairs.{Pair, booked}
 use Rattle.bookings.specs.declared.Bookings.{Bookings}
-use Rattle.bookings.specs.declared.Entered.{Entered}
 
 -- A pair as one number.
 abbrev pub number : Pair → ℕ
@@ -41,6 +40,16 @@ is_in x (y ∷ ys) = cond (eqb y x) true (is_in x ys)
 -- A number put in front of the record: the oldest goes out.
 abbrev pub pushed : ℕ → Bookings → Bookings
 pushed x b = record { count = min 32 (b.count + 1); pairs = x ∷ take 31 b.pairs }
+
+-- The record after a transfer, and the mark: 1 booked, 2 again.
+pub record Entered : Type 0 where
+  pub bookings : Bookings
+  pub mark : ℕ
+
+-- The record with a number more in it; or none, where the number was in the record b.
+abbrev pub entered : Bookings → Option Bookings → Entered
+entered b (Some c) = record { bookings = c; mark = 1 }
+entered b None = record { bookings = b; mark = 2 }
 
 -- A number entered: it is booked, mark 1; or it is there, nothing moves, and the mark is 2.
 abbrev pub entered_as : (again : Bool) → Bookings → ℕ → Entered
