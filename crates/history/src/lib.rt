@@ -1,6 +1,9 @@
-// The history of slot reports: what a receiver is to answer, and the step that answers it. It has records and no
-// function: specs/ has the definitions, proofs/ the theorems.
+// The history of slot reports: what a receiver is to answer, and the step that answers it. It has types, and no
+// function but an outcome's number: specs/ has the definitions, proofs/ the theorems.
 #![tactic(auto)]
+
+ghost use Rattle.std.specs.Prelude.{◌≡◌};
+ghost use Rattle.history.specs.Step.{outcome_number};
 
 use blocks::header::Fields;
 use store::Raw;
@@ -14,7 +17,7 @@ pub struct Place {
 }
 
 // What a report brings, once its blocks are read: nothing, a header, or a block.
-#[derive(Clone, Copy)]
+#[derive(Clone, Copy, PartialEq, Eq)]
 pub enum What {
     Nothing,
     Fragmented,
@@ -57,7 +60,7 @@ pub struct Open {
 }
 
 // What becomes of the open assembly: it stays, it ends, the header opens one, it takes the block.
-#[derive(Clone, Copy)]
+#[derive(Clone, Copy, PartialEq, Eq)]
 pub enum Act {
     Stays,
     Ends,
@@ -86,32 +89,39 @@ impl Lost {
 // the assembly; whether the header is one more that copies can come of.
 #[derive(Clone, Copy)]
 pub struct Verdict {
-    pub outcome: u8,
+    pub outcome: Outcome,
     pub dropped: bool,
     pub act: Act,
     pub near: bool,
 }
 
-// The outcomes of a report.
-#[derive(Clone, Copy)]
-pub struct Outcome {}
-
-impl Outcome {
+// The outcomes of a report, in the order of their numbers.
+#[derive(Clone, Copy, PartialEq, Eq)]
+pub enum Outcome {
     // Nothing for this unit.
-    pub const NOTHING: u8 = 0;
+    Quiet = 0,
 
     // An unfragmented message is handed over.
-    pub const UNFRAGMENTED: u8 = 1;
+    Single = 1,
 
     // A joined message is handed over.
-    pub const JOINED: u8 = 2;
+    Joined = 2,
 
     // A fragmented header, or a repeat of it: an assembly is open.
-    pub const OPENED: u8 = 3;
+    Opened = 3,
 
     // A block in its due slot was kept.
-    pub const KEPT: u8 = 4;
+    Kept = 4,
 
     // A copy of an unfragmented message that was handed over before.
-    pub const COPY: u8 = 5;
+    Copied = 5,
+}
+
+impl Outcome {
+    // Its number, as answers have it.
+    pub fn number(self) -> u8
+        ensures { result ≡ outcome_number self }
+    {
+        self as u8
+    }
 }

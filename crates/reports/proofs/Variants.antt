@@ -10,7 +10,6 @@ use Rattle.history.specs.declared.Act.TheVariants.{Stays, Ends, Opens, Takes}
 use Rattle.history.specs.declared.What.{What}
 use Rattle.history.specs.declared.What.TheVariants.{Nothing, Fragmented, Unfragmented, Frag, End}
 use Rattle.history.proofs.Verdicts.{absurd_bool}
-use Rattle.reports.specs.Reading.{number_of}
 
 -- An act is known by its two answers.
 abbrev act_of : Bool → Bool → Act
@@ -24,26 +23,3 @@ asked Takes = refl
 
 pub act_is : (act : Act) {c j : Bool} → clears act ≡ c → joins act ≡ j → act ≡ act_of c j
 act_is act e g = asked act ∙ ap₂ act_of e g
-
--- What is brought is known by its number.
-abbrev what_of : ℕ → What
-what_of n =
-    cond (eqb n 0) Nothing (cond (eqb n 1) Fragmented (cond (eqb n 2) Unfragmented (cond (eqb n 3) Frag End)))
-
-numbered : (w : What) → what_of (number_of w) ≡ w
-numbered Nothing = refl
-numbered Fragmented = refl
-numbered Unfragmented = refl
-numbered Frag = refl
-numbered End = refl
-
-pub same_what : (v w : What) → eqb (number_of v) (number_of w) ≡ true → v ≡ w
-same_what v w e = sym (numbered v) ∙ ap what_of (eqb-true (number_of v) (number_of w) e) ∙ numbered w
-
-pub last_what : (w : What) → eqb (number_of w) 0 ≡ false → eqb (number_of w) 1 ≡ false → eqb (number_of w) 2 ≡ false
-    → eqb (number_of w) 3 ≡ false → w ≡ End
-last_what Nothing a b c d = absurd_bool (sym a)
-last_what Fragmented a b c d = absurd_bool (sym b)
-last_what Unfragmented a b c d = absurd_bool (sym c)
-last_what Frag a b c d = absurd_bool (sym d)
-last_what End a b c d = refl

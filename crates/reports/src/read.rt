@@ -75,7 +75,6 @@ fn header(settings: Settings, q: Place, blocks: &[u8]) -> Brought
     if x.fault != 0 {
         return headless(What::Nothing, x.fault, 0, 0);
     }
-    let fields = x.fields;
     let what = if x.fragmented == 1 {
         What::Fragmented
     } else {
@@ -84,9 +83,9 @@ fn header(settings: Settings, q: Place, blocks: &[u8]) -> Brought
     Brought {
         what,
         fault: 0,
-        meant: settings.meant(fields),
+        meant: settings.meant(x.fields),
         raw: store::without_two(h, 12 + 4 * (x.fragmented as usize)),
-        fields: same_fields(fields),
+        fields: same_fields(x.fields),
         more: x.count - x.fragmented,
         countdown: x.countdown,
         from: SchS::LENT + x.first,
@@ -114,10 +113,11 @@ pub fn read(settings: Settings, q: Place, kind: u8, blocks: &[u8]) -> Brought
     requires { brought kind (length blocks.now) ≡ true }
     ensures { Reads settings (lent q.frame q.slot kind blocks.now) result }
 {
-    if kind == Kind::HEADER {
+    let kind = Kind::of(kind);
+    if kind == Some(Kind::Header) {
         return header(settings, q, blocks);
     }
-    if kind == Kind::BLOCK {
+    if kind == Some(Kind::Block) {
         return block(settings, q, blocks);
     }
     headless(What::Nothing, 0, 0, 0)

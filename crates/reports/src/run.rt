@@ -32,11 +32,9 @@ pub fn older_run(turn: bool, q: Place, a: Open) -> Open
     if !turn {
         return no_run();
     }
-    let fields = a.fields;
-    let raw = a.raw;
     Open {
-        fields: same_fields(fields),
-        raw,
+        fields: same_fields(a.fields),
+        raw: a.raw,
         held: a.held,
         again: wane(q, a.again),
         more: a.more,
@@ -50,64 +48,35 @@ pub fn older_run(turn: bool, q: Place, a: Open) -> Open
 pub(crate) fn is_due(a: Open, q: Place) -> bool
     ensures { result ≡ is_due a q }
 {
-    if a.held != 1 {
-        return false;
-    }
-    if q.slot != 1 {
-        return false;
-    }
-    q.frame == blocks::slots::frame_of(a.frame, a.countdown, a.kept)
+    a.held == 1 && q.slot == 1 && q.frame == blocks::slots::frame_of(a.frame, a.countdown, a.kept)
 }
 
 // Whether a header, its SCH/H but for the countdown and its countdown, repeats an earlier one.
 fn repeats(raw: Raw, again: u8, other: Raw, countdown: u8) -> bool
     ensures { result ≡ repeats raw again other countdown }
 {
-    if !store::same(raw, other) {
-        return false;
-    }
-    if again == 0 {
-        return false;
-    }
-    countdown == again - 1
+    store::same(raw, other) && again != 0 && countdown == again - 1
 }
 
 // Whether a header repeats its own, before the first block; `meant` where that is for this unit.
 pub(crate) fn renews(a: Open, meant: bool, raw: Raw, countdown: u8) -> bool
     ensures { result ≡ renews a meant raw countdown }
 {
-    if !meant {
-        return false;
-    }
-    if a.kept != 0 {
-        return false;
-    }
-    let own = a.raw;
-    repeats(own, a.again, raw, countdown)
+    meant && a.kept == 0 && repeats(a.raw, a.again, raw, countdown)
 }
 
 // Whether what was open is gone with this act.
 pub fn clears(act: Act) -> bool
     ensures { result ≡ clears act }
 {
-    match act {
-        Act::Stays => false,
-        Act::Ends => true,
-        Act::Opens => true,
-        Act::Takes => false,
-    }
+    matches!(act, Act::Ends | Act::Opens)
 }
 
 // Whether the bits that the report brings are joined.
 pub fn joins(act: Act) -> bool
     ensures { result ≡ joins act }
 {
-    match act {
-        Act::Stays => false,
-        Act::Ends => false,
-        Act::Opens => true,
-        Act::Takes => true,
-    }
+    matches!(act, Act::Opens | Act::Takes)
 }
 
 // What becomes of it: it stays, it ends, the header in this frame opens one, it has one block more.
@@ -119,18 +88,17 @@ pub fn run_after(act: Act, x: Brought, frame: u8, a: Open) -> Open
         if !joins(act) {
             return a;
         }
-        let mut o = a;
-        o.kept = a.kept + 1;
-        return o;
+        return Open {
+            kept: a.kept + 1,
+            ..a
+        };
     }
     if !joins(act) {
         return no_run();
     }
-    let fields = x.fields;
-    let raw = x.raw;
     Open {
-        fields,
-        raw,
+        fields: x.fields,
+        raw: x.raw,
         held: 1,
         again: x.countdown + 1,
         more: x.more,
@@ -144,8 +112,5 @@ pub fn run_after(act: Act, x: Brought, frame: u8, a: Open) -> Open
 pub fn broken_off(turn: bool, a: Open) -> bool
     ensures { result ≡ broken_off turn a }
 {
-    if turn {
-        return false;
-    }
-    a.held == 1
+    !turn && a.held == 1
 }
