@@ -1,8 +1,9 @@
 // Bit strings over lent bytes: eight bits to a byte, the first bit highest.
 #![tactic(auto)]
 
-ghost use Rattle.std.specs.Prelude.{◌≡◌, false, ◌+◌, ◌-◌, ◌*◌, ◌/◌, ◌%◌, ◌^◌, ◌≤◌, ◌<◌, min, leb, length, take, drop, replicate};
+ghost use Rattle.std.specs.Prelude.{ℕ, ◌≡◌, false, ◌+◌, ◌-◌, ◌*◌, ◌/◌, ◌%◌, ◌^◌, ◌≤◌, ◌<◌, min, leb, length, take, drop, replicate};
 ghost use Rattle.std.proofs.Math.Seq.{slice};
+ghost use Rattle.std.proofs.Common.{rules};
 ghost use Rattle.bits.specs.Bits.{num, bits_n, bits_of, over, Inside, Got};
 ghost use Rattle.bits.specs.Layout.{total, parts_with, AllFit, AllNarrow, pack};
 ghost use Rattle.bits.specs.Fill.{strip, found_at, fill_bits};
@@ -140,7 +141,7 @@ fn put_through(out: &mut [u8], first: usize, last: usize, at: usize, w: usize, v
 }
 
 // The `w` bits from bit `at` on, as a number.
-pub fn get(s: &[u8], at: usize, w: usize) -> u64
+fn field(s: &[u8], at: usize, w: usize) -> u64
     requires { Inside (length s.now) at (at + w) × (w ≤ 56) }
     ensures { Got (bits_of s.now) at w result }
 {
@@ -151,20 +152,61 @@ pub fn get(s: &[u8], at: usize, w: usize) -> u64
     cut(load(s, first, first + 8), (first << 3) + 64 - (at + w), w)
 }
 
-// The same, of eight bits at most.
-pub fn get8(s: &[u8], at: usize, w: usize) -> u8
-    requires { Inside (length s.now) at (at + w) × (w ≤ 8) }
-    ensures { Got (bits_of s.now) at w result }
-{
-    get(s, at, w) as u8
+// A type of numbers that a field of at most `most` bits is taken as.
+pub trait Number {
+    ghost most: { ℕ };
+
+    ghost value: { Self → ℕ };
+
+    fn narrowed(x: u64) -> Self
+        requires { x < 2 ^ most }
+        ensures { value result ≡ x };
+
+    ghost most_of_a_field: { most ≤ 56 };
 }
 
-// The same, of 32 bits at most.
-pub fn get32(s: &[u8], at: usize, w: usize) -> u32
-    requires { Inside (length s.now) at (at + w) × (w ≤ 32) }
-    ensures { Got (bits_of s.now) at w result }
+impl Number for u8 {
+    ghost most = { 8 };
+
+    ghost value = { λ x. x };
+
+    ghost most_of_a_field = { Prim.search rules };
+
+    fn narrowed(x: u64) -> u8 {
+        x as u8
+    }
+}
+
+impl Number for u32 {
+    ghost most = { 32 };
+
+    ghost value = { λ x. x };
+
+    ghost most_of_a_field = { Prim.search rules };
+
+    fn narrowed(x: u64) -> u32 {
+        x as u32
+    }
+}
+
+impl Number for u64 {
+    ghost most = { 56 };
+
+    ghost value = { λ x. x };
+
+    ghost most_of_a_field = { Prim.search rules };
+
+    fn narrowed(x: u64) -> u64 {
+        x
+    }
+}
+
+// The `w` bits from bit `at` on: eight at most as a `u8`, 32 as a `u32`, 56 as a `u64`.
+pub fn get<T: Number>(s: &[u8], at: usize, w: usize) -> T
+    requires { Inside (length s.now) at (at + w) × (w ≤ T.most) }
+    ensures { Got (bits_of s.now) at w (T.value result) }
 {
-    get(s, at, w) as u32
+    T::narrowed(field(s, at, w))
 }
 
 // Puts the `w` bits of `v` at bit `at`; every other bit stays.
@@ -220,7 +262,7 @@ pub fn copy(src: &[u8], from: usize, dst: &mut [u8], to: usize, n: usize)
     let mut i = 0;
     while i < n {
         let w = least(n - i, FIELD);
-        put(dst, to + i, w, get(src, from + i, w));
+        put(dst, to + i, w, field(src, from + i, w));
         i += w;
     }
 }
@@ -250,29 +292,20 @@ pub fn fill(out: &mut [u8], from: usize, to: usize)
     }
 }
 
-// A place, or none.
-#[derive(Clone, Copy)]
-pub enum Found {
-    At(usize),
-    Nothing,
-}
-
 // The last bit that is 1 of those from `from` up to `to`, byte by byte from the end. Of the last byte the bits after
 // the room are left out; in the first one a 1 before the room is none of its own. It calls itself where the room starts
 // within a byte, and so stands in the image once (decision 12).
-pub fn last_one(s: &[u8], from: usize, to: usize) -> Found
+pub fn last_one(s: &[u8], from: usize, to: usize) -> Option<usize>
     requires { Inside (length s.now) from to }
     ensures { result ≡ found_at from (strip (slice from to (bits_of s.now))) }
 {
     let before = from & 7;
     if before != 0 {
-        let Found::At(at) = last_one(s, from - before, to) else {
-            return Found::Nothing;
-        };
+        let at = last_one(s, from - before, to)?;
         if at < from {
-            return Found::Nothing;
+            return None;
         }
-        return Found::At(at);
+        return Some(at);
     }
     let first = from >> 3;
     let mut i = (to + 7) >> 3;
@@ -281,9 +314,9 @@ pub fn last_one(s: &[u8], from: usize, to: usize) -> Found
         i -= 1;
         let byte = s[i] >> after;
         if byte != 0 {
-            return Found::At((i << 3) + 7 - after - (u8::trailing_zeros(byte) as usize));
+            return Some((i << 3) + 7 - after - (u8::trailing_zeros(byte) as usize));
         }
         after = 0;
     }
-    Found::Nothing
+    None
 }

@@ -49,9 +49,9 @@ field_pad (suc p) (x ∷ xs) k = field_pad p xs k
 width_pad : (e : Entry) (l : List Bool) (k : ℕ) → width_of e (l ++ replicate k false) ≡ width_of e l
 unfolding width_of
 width_pad e l k =
-    let p₁ = field_pad e.flag l k in
-    let a = added (field e.flag 1 l) e.adds in
-    let p₂ = field_pad (a + e.flag2) l k in
+    let p₁ = field_pad e.first.place l k in
+    let a = added (field e.first.place 1 l) e.first.adds in
+    let p₂ = field_pad (a + e.second.place) l k in
     rw (p₁, p₂) refl
 
 -- ---- the run of elements

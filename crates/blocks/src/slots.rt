@@ -1,6 +1,7 @@
 // The layout of a fragmented message over slots.
 ghost use Rattle.std.specs.Prelude.{◌≡◌};
-ghost use Rattle.blocks.specs.Slots.{frame_number, frames_to, due_frame, since1, due_of};
+ghost use Rattle.blocks.specs.Faults.{refusal, first_of};
+ghost use Rattle.blocks.specs.Slots.{frame_number, frames_to, due_frame, due_checks, since1, due_of};
 
 use crate::fault::Fault;
 
@@ -46,36 +47,34 @@ pub fn frame_number(x: u8, k: u16) -> u8
     ((n - 1) % 18 + 1) as u8
 }
 
+// The first of the faults 7, 13 and 14 that these numbers give.
+fn due_rules(x: u8, f: u8, i: u8) -> Result<(), Fault>
+    ensures { refusal result ≡ first_of (due_checks x f i) }
+{
+    if x < 1 || 18 < x {
+        return Err(Fault::Frame);
+    }
+    if 3 < f {
+        return Err(Fault::Range);
+    }
+    if 14 < i {
+        return Err(Fault::TooLong);
+    }
+    Ok(())
+}
+
 // The frame of block `i`, from 0, of a message whose header stands in frame `x` with countdown `f`.
 pub fn due_frame(x: u8, f: u8, i: u8) -> Due
     ensures { result ≡ due_of x f i }
 {
-    if x < 1 {
-        return Due {
-            fault: Fault::FRAME,
+    match due_rules(x, f, i) {
+        Ok(()) => Due {
+            fault: 0,
+            frame: frame_of(x, f, i),
+        },
+        Err(fault) => Due {
+            fault: fault.number(),
             frame: 0,
-        };
-    }
-    if 18 < x {
-        return Due {
-            fault: Fault::FRAME,
-            frame: 0,
-        };
-    }
-    if 3 < f {
-        return Due {
-            fault: Fault::RANGE,
-            frame: 0,
-        };
-    }
-    if 14 < i {
-        return Due {
-            fault: Fault::TOO_LONG,
-            frame: 0,
-        };
-    }
-    Due {
-        fault: 0,
-        frame: frame_of(x, f, i),
+        },
     }
 }

@@ -10,7 +10,7 @@ pub loop-i-init : goal.loop-i-init
 loop-i-init c = (omega arith, refl, sym (over_nil _ _))
 
 pub put-requires : goal.put-requires
-put-requires c = (search rules, search rules, c.get.ensures.small)
+put-requires c = (search rules, search rules, c.field.ensures.small)
 
 pub loop-i-preserved : goal.loop-i-preserved
 loop-i-preserved c =
@@ -20,7 +20,7 @@ loop-i-preserved c =
       omega arith,
       omega arith,
       c.put.ensures
-          ∙ rw (c.get.ensures.is, l.invariant.2)
+          ∙ rw (c.field.ensures.is, l.invariant.2)
           (copy_more (bits_of a.src.now) (bits_of a.dst.now) a.from a.to l.i w
           (omega (arith, length_bits_of a.src.now)) (omega (arith, length_bits_of a.dst.now))),
     )

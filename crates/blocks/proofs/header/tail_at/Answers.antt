@@ -19,14 +19,14 @@ from_next c =
 pub address_at-s-requires : goal.address_at-s-requires
 address_at-s-requires c = let n = to-next (goal.at.address_at-s-requires c).After-address_at-d in omega arith
 
-pub get32-mni-requires : goal.get32-mni-requires
-get32-mni-requires c = let n = from_next (goal.at.get32-mni-requires c).After-address_at-s in omega arith
+pub get-mni-requires : goal.get-mni-requires
+get-mni-requires c = let n = from_next (goal.at.get-mni-requires c).After-address_at-s in omega arith
 
 pub overflow_add-s : goal.overflow_add-s
 overflow_add-s c = let n = from_next (goal.at.overflow_add-s c).After-address_at-s in omega arith
 
-pub get8-message-requires : goal.get8-message-requires
-get8-message-requires c = let n = from_next (goal.at.get8-message-requires c).After-address_at-s in omega arith
+pub get-message-requires : goal.get-message-requires
+get-message-requires c = let n = from_next (goal.at.get-message-requires c).After-address_at-s in omega arith
 
 pub overflow_add-run : goal.overflow_add-run
 overflow_add-run c = let n = from_next (goal.at.overflow_add-run c).After-address_at-s in omega arith
@@ -42,7 +42,7 @@ overflow_add-result c =
     let n = from_next (goal.at.overflow_add-result c).After-address_at-s in
     omega (
       arith,
-      width_le_279 c.get8-message.result _ c.width_at-width.ensures,
+      width_le_279 c.get-message.result _ c.width_at-width.ensures,
     )
 
 pub returns : goal.returns
@@ -50,8 +50,8 @@ returns c =
     let a = c.args in
     let d = c.address_at-d in
     let s = c.address_at-s in
-    let mni = c.get32-mni in
-    let m = c.get8-message in
+    let mni = c.get-mni in
+    let m = c.get-message in
     let w = c.width_at-width in
     tail_read a.at (bits_of a.h.now) mni.result m.result w.result d.result s.result d.ensures
     s.ensures
