@@ -66,7 +66,12 @@ pub(crate) fn block(out: &mut [u8], b: Continuation) -> usize
     requires { 512 ≤ length out.old }
     ensures { Stands out.old (block_text b) out.new result }
 {
-    let ns = [u64::from(b.fault), u64::from(b.last), b.first as u64, b.bits as u64];
+    let ns = [
+        u64::from(b.fault),
+        u64::from(b.last),
+        b.first as u64,
+        b.bits as u64,
+    ];
     line_of(out, b"block", &ns)
 }
 
