@@ -47,6 +47,7 @@ fn block_end(s: &[u8; SchF::BYTES]) -> Result<usize, Fault>
 }
 
 // Reads a continuation block; copies nothing.
+#[tactic(auto, using(crate::proofs::FaultLaws::no_zero), unfolding(crate::specs::Continuation::read_continuation))]
 pub fn read_continuation(s: &[u8]) -> Continuation
     ensures { result ≡ read_continuation s.now }
 {

@@ -116,6 +116,7 @@ struct Addressed {
     next: usize,
 }
 
+#[tactic(auto, using(crate::proofs::HeaderLaws::address_absent, crate::proofs::HeaderLaws::address_there, bits::proofs::Bytes::length_bits_of))]
 fn address_at(h: &[u8], at: usize) -> Addressed
     requires { (at + 26 ≤ 8 * length h.now) × (at ≤ 4096) }
     ensures { result ≡ address_at at (bits_of h.now) }
@@ -149,6 +150,7 @@ pub(crate) struct Tail {
 }
 
 // The tail that starts at bit `at` of a lent block.
+#[tactic(auto, using(crate::proofs::HeaderLaws::tail_read, crate::proofs::HeaderLaws::next_le))]
 pub(crate) fn tail_at(h: &[u8], at: usize) -> Tail
     requires { (at + 104 ≤ 8 * length h.now) × (at ≤ 2048) }
     ensures { result ≡ tail_at at (bits_of h.now) }
@@ -222,7 +224,7 @@ pub fn header_bits(fragmented: u8, to: u8, from: u8, width: u8) -> usize
 {
     let d = address_width(to);
     let s = address_width(from);
-    EVERY + Width::COUNT * (fragmented as usize) + d + s + (width as usize)
+    EVERY + Width::COUNT * usize::from(fragmented) + d + s + usize::from(width)
 }
 
 // SCH/H as it stands, before it is judged.
@@ -235,12 +237,13 @@ struct Body {
     tail: Tail,
 }
 
+#[tactic(auto, using(crate::proofs::HeaderLaws::body_read))]
 fn body_of(h: &[u8; SchH::BYTES]) -> Body
     ensures { result ≡ body_of (bits_of h.now) }
 {
     let fill = bits::get(h, SchH::FILL, 1);
     let fragmented = bits::get(h, SchH::FRAGMENTED, 1);
-    let counted = Width::COUNT * (fragmented as usize);
+    let counted = Width::COUNT * usize::from(fragmented);
     let count = bits::get(h, SchH::COUNT, counted);
     let at = SchH::COUNT + counted;
     let countdown = bits::get(h, at, Width::COUNTDOWN);
@@ -290,6 +293,7 @@ fn body_end(h: &[u8; SchH::BYTES], b: Body) -> Result<usize, Fault>
 }
 
 // What follows SCH/S's part: the faults from 10 on, the fields and the DM-SDU.
+#[tactic(auto, using(crate::proofs::ReadLaws::held, crate::proofs::ReadLaws::body_answer, crate::proofs::ReadLaws::body_refused, crate::proofs::FaultLaws::no_zero))]
 fn read_body(sync: Sync, h: &[u8; SchH::BYTES]) -> Header
     ensures { result ≡ read_body sync (bits_of h.now) }
 {
@@ -310,6 +314,7 @@ fn read_body(sync: Sync, h: &[u8; SchH::BYTES]) -> Header
 }
 
 // Reads a header from its two lent blocks; copies nothing.
+#[tactic(auto, using(crate::proofs::ReadLaws::header_passed, crate::proofs::ReadLaws::header_refused, crate::proofs::FaultLaws::no_zero))]
 pub fn read_header(s: &[u8], h: &[u8]) -> Header
     ensures { result ≡ read_header s.now h.now }
 {
@@ -320,6 +325,7 @@ pub fn read_header(s: &[u8], h: &[u8]) -> Header
 }
 
 // The same of a report's blocks: their frame and slot are to be the report's.
+#[tactic(auto, using(crate::proofs::FaultLaws::chain_given, crate::proofs::FaultLaws::no_zero))]
 fn reported<'a>(frame: u8, slot: u8, s: &[u8], h: &'a [u8]) -> Result<Checked<'a>, Fault>
     ensures faults { refusal result
         ≡ first_of (sync_checks s.now h.now ++ place_rules frame slot (sync_of (bits_of s.now))) }
@@ -334,6 +340,7 @@ fn reported<'a>(frame: u8, slot: u8, s: &[u8], h: &'a [u8]) -> Result<Checked<'a
 }
 
 // Reads a header as a report brings it: the block's frame and slot are to be the report's.
+#[tactic(auto, using(crate::proofs::ReadLaws::reported_passed, crate::proofs::ReadLaws::reported_refused, crate::proofs::FaultLaws::no_zero))]
 pub fn read_reported(frame: u8, slot: u8, s: &[u8], h: &[u8]) -> Header
     ensures { result ≡ read_reported frame slot s.now h.now }
 {

@@ -58,6 +58,7 @@ pub(crate) struct Checked<'a> {
 }
 
 // A header's two lent blocks, or the first of the faults 1 to 7 that they give.
+#[tactic(auto, unfolding(crate::specs::Sync::sync_checks, crate::specs::Sync::sync_of))]
 pub(crate) fn checked_blocks<'a>(s: &[u8], h: &'a [u8]) -> Result<Checked<'a>, Fault>
     ensures faults { refusal result ≡ first_of (sync_checks s.now h.now) }
     ensures sync { IfOk result (λ x. x.sync ≡ sync_of (bits_of s.now)) }

@@ -98,6 +98,7 @@ fn added_by(s: &[u8], at: usize, flag: Flag) -> usize
 }
 
 // The width of a message's elements that start at bit `at`: its flags name the case.
+#[tactic(auto, using(crate::proofs::WidthLaws::width_read))]
 pub(crate) fn width_at(s: &[u8], at: usize, message: u8) -> usize
     requires { at + 23 ≤ 8 * length s.now × (at ≤ 4096) }
     ensures { result ≡ width_of (entry_of message) (drop at (bits_of s.now)) }
@@ -112,6 +113,7 @@ pub(crate) fn width_at(s: &[u8], at: usize, message: u8) -> usize
 const WIDEST: usize = 45;
 
 // Whether a run of elements is one that the table has for this message type; one without entry is not tested.
+#[tactic(auto, using(crate::proofs::RunLaws::run_unlisted, crate::proofs::RunLaws::run_wide, crate::proofs::RunLaws::run_large, crate::proofs::RunLaws::run_read, crate::proofs::RunLaws::shifted_out))]
 pub fn run_fits(message: u8, width: u8, elements: u64) -> bool
     ensures { result ≡ run_fits message width elements }
 {
