@@ -116,7 +116,7 @@ struct Addressed {
     next: usize,
 }
 
-#[tactic(auto, using(crate::proofs::HeaderLaws::address_absent, crate::proofs::HeaderLaws::address_there, bits::proofs::Bytes::length_bits_of))]
+#[tactic(auto, using(crate::proofs::HeaderLaws::addresses))]
 fn address_at(h: &[u8], at: usize) -> Addressed
     requires { (at + 26 ≤ 8 * length h.now) × (at ≤ 4096) }
     ensures { result ≡ address_at at (bits_of h.now) }
@@ -293,7 +293,7 @@ fn body_end(h: &[u8; SchH::BYTES], b: Body) -> Result<usize, Fault>
 }
 
 // What follows SCH/S's part: the faults from 10 on, the fields and the DM-SDU.
-#[tactic(auto, using(crate::proofs::ReadLaws::held, crate::proofs::ReadLaws::body_answer, crate::proofs::ReadLaws::body_refused, crate::proofs::FaultLaws::no_zero))]
+#[tactic(auto, using(crate::proofs::ReadLaws::bodies))]
 fn read_body(sync: Sync, h: &[u8; SchH::BYTES]) -> Header
     ensures { result ≡ read_body sync (bits_of h.now) }
 {
@@ -314,7 +314,7 @@ fn read_body(sync: Sync, h: &[u8; SchH::BYTES]) -> Header
 }
 
 // Reads a header from its two lent blocks; copies nothing.
-#[tactic(auto, using(crate::proofs::ReadLaws::header_passed, crate::proofs::ReadLaws::header_refused, crate::proofs::FaultLaws::no_zero))]
+#[tactic(auto, using(crate::proofs::ReadLaws::headers))]
 pub fn read_header(s: &[u8], h: &[u8]) -> Header
     ensures { result ≡ read_header s.now h.now }
 {
@@ -340,7 +340,7 @@ fn reported<'a>(frame: u8, slot: u8, s: &[u8], h: &'a [u8]) -> Result<Checked<'a
 }
 
 // Reads a header as a report brings it: the block's frame and slot are to be the report's.
-#[tactic(auto, using(crate::proofs::ReadLaws::reported_passed, crate::proofs::ReadLaws::reported_refused, crate::proofs::FaultLaws::no_zero))]
+#[tactic(auto, using(crate::proofs::ReadLaws::reports))]
 pub fn read_reported(frame: u8, slot: u8, s: &[u8], h: &[u8]) -> Header
     ensures { result ≡ read_reported frame slot s.now h.now }
 {

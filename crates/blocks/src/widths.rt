@@ -19,8 +19,7 @@ pub struct Entry {
     pub second: Flag,
 }
 
-// The width that marks a code without an entry. Kept: theorems speak of `entry_of`, and of this width where a code has no
-// entry.
+// The width that marks a code without an entry. Kept: theorems speak of `entry_of` and of this width.
 pub const NO_ENTRY: u8 = 255;
 
 // Elements of one width.
@@ -113,7 +112,7 @@ pub(crate) fn width_at(s: &[u8], at: usize, message: u8) -> usize
 const WIDEST: usize = 45;
 
 // Whether a run of elements is one that the table has for this message type; one without entry is not tested.
-#[tactic(auto, using(crate::proofs::RunLaws::run_unlisted, crate::proofs::RunLaws::run_wide, crate::proofs::RunLaws::run_large, crate::proofs::RunLaws::run_read, crate::proofs::RunLaws::shifted_out))]
+#[tactic(auto, using(crate::proofs::RunLaws::runs))]
 pub fn run_fits(message: u8, width: u8, elements: u64) -> bool
     ensures { result ≡ run_fits message width elements }
 {
