@@ -5,7 +5,7 @@ ghost use Rattle.blocks.specs.Faults.{number_of, refusal, first_of};
 ghost use Rattle.blocks.specs.Sdu.{bits_of_message};
 ghost use Rattle.blocks.specs.Sync.{sync_of, sync_checks};
 ghost use Rattle.blocks.specs.Header.{address_width, address_at, tail_at, tail_rules, fields_with, shape, sdu_at};
-ghost use Rattle.blocks.specs.Header.{body_of, message_of_header, body_rules, body_checks, place_rules};
+ghost use Rattle.blocks.specs.Header.{body_of, message_of_header, body_checks, place_rules};
 ghost use Rattle.blocks.specs.Header.{no_fields, refused_header, read_body, read_header, read_reported};
 
 use crate::fault::Fault;
@@ -174,20 +174,14 @@ pub(crate) fn tail_at(h: &[u8], at: usize) -> Tail
     }
 }
 
-// The first of the faults 8 and 9 that a tail's elements give in a block whose room ends before bit `end`.
-pub(crate) fn tail_rules(
-    to: u8,
-    from: u8,
-    width: usize,
-    first: usize,
-    end: usize,
-) -> Result<(), Fault>
-    ensures { refusal result ≡ first_of (tail_rules to from width first end) }
+// The first of the faults 8 and 9 that a tail gives in a block whose room ends before bit `end`.
+pub(crate) fn tail_rules(t: Tail, end: usize) -> Result<(), Fault>
+    ensures { refusal result ≡ first_of (tail_rules t.destination.kind t.source.kind t.width t.first end) }
 {
-    if 2 < to || 2 < from {
+    if 2 < t.destination.kind || 2 < t.source.kind {
         return Err(Fault::AddressType);
     }
-    if usize::from(NO_ENTRY) <= width || end < first {
+    if usize::from(NO_ENTRY) <= t.width || end < t.first {
         return Err(Fault::MessageType);
     }
     Ok(())
@@ -257,39 +251,17 @@ fn body_of(h: &[u8; SchH::BYTES]) -> Body
     }
 }
 
-// The first of the faults 10, 8 and 9 that these elements give.
-fn body_rules(
-    fragmented: u8,
-    count: u8,
-    to: u8,
-    from: u8,
-    width: usize,
-    first: usize,
-) -> Result<(), Fault>
-    ensures { refusal result ≡ first_of (body_rules fragmented count to from width first) }
-{
-    if count < fragmented {
-        return Err(Fault::Count);
-    }
-    tail_rules(to, from, width, first, SchH::BITS)
-}
-
 // Where the message ends in SCH/H, or the first of the faults from 10 on.
 fn body_end(h: &[u8; SchH::BYTES], b: Body) -> Result<usize, Fault>
     requires { b ≡ body_of (bits_of h.now) }
     ensures faults { refusal result ≡ first_of (body_checks (bits_of h.now)) }
     ensures end { IfOk result (λ n. n ≡ b.tail.first + length (bits_of_message (message_of_header b (bits_of h.now)))) }
 {
-    let t = b.tail;
-    body_rules(
-        b.fragmented,
-        b.count,
-        t.destination.kind,
-        t.source.kind,
-        t.width,
-        t.first,
-    )?;
-    sdu_end(h, b.fill, t.first, SchH::BITS)
+    if b.count < b.fragmented {
+        return Err(Fault::Count);
+    }
+    tail_rules(b.tail, SchH::BITS)?;
+    sdu_end(h, b.fill, b.tail.first, SchH::BITS)
 }
 
 // What follows SCH/S's part: the faults from 10 on, the fields and the DM-SDU.
