@@ -12,7 +12,7 @@ use crate::sizes::{PAD, SchF, Width};
 // A continuation block that was read; where it was refused, all but the fault is 0. `last` is 1 for DMAC-END, `first`
 // the DM-SDU's first bit and `bits` the number of its message bits.
 #[repr(C)]
-#[derive(Clone, Copy)]
+#[derive(Clone, Copy, Default)]
 pub struct Continuation {
     pub fault: u8,
     pub last: u8,
@@ -25,9 +25,7 @@ fn refused(fault: Fault) -> Continuation
 {
     Continuation {
         fault: fault.number(),
-        last: 0,
-        first: 0,
-        bits: 0,
+        ..Continuation::default()
     }
 }
 

@@ -16,7 +16,7 @@ use crate::widths::NO_ENTRY;
 
 // An address element: its type, and the SSI, 0 where it is absent.
 #[repr(C)]
-#[derive(Clone, Copy)]
+#[derive(Clone, Copy, Default)]
 pub struct Address {
     pub kind: u8,
     pub ssi: u32,
@@ -39,7 +39,7 @@ impl Address {
 // What a message's header says of it: addresses, MNI, message type, and the dependent elements as one run of bits with
 // its width.
 #[repr(C)]
-#[derive(Clone, Copy)]
+#[derive(Clone, Copy, Default)]
 pub struct Fields {
     pub destination: Address,
     pub source: Address,
@@ -52,7 +52,7 @@ pub struct Fields {
 // A header that was read; where it was refused, all but the fault is 0. `fragmented` is the flag, `count` the number of
 // SCH/F slots, `first` the DM-SDU's first bit in SCH/H and `bits` the number of its message bits.
 #[repr(C)]
-#[derive(Clone, Copy)]
+#[derive(Clone, Copy, Default)]
 pub struct Header {
     pub fault: u8,
     pub sync: Sync,
@@ -68,14 +68,7 @@ pub struct Header {
 pub fn no_fields() -> Fields
     ensures { result ≡ no_fields }
 {
-    Fields {
-        destination: Address { kind: 0, ssi: 0 },
-        source: Address { kind: 0, ssi: 0 },
-        mni: 0,
-        message: 0,
-        width: 0,
-        elements: 0,
-    }
+    Fields::default()
 }
 
 fn refused(fault: Fault) -> Header
@@ -83,18 +76,7 @@ fn refused(fault: Fault) -> Header
 {
     Header {
         fault: fault.number(),
-        sync: Sync {
-            system: 0,
-            usage: 0,
-            slot: 0,
-            frame: 0,
-        },
-        fragmented: 0,
-        count: 0,
-        countdown: 0,
-        fields: no_fields(),
-        first: 0,
-        bits: 0,
+        ..Header::default()
     }
 }
 

@@ -7,7 +7,7 @@ use crate::fault::Fault;
 
 // A frame, or the number of the refusal.
 #[repr(C)]
-#[derive(Clone, Copy)]
+#[derive(Clone, Copy, Default)]
 pub struct Due {
     pub fault: u8,
     pub frame: u8,
@@ -77,7 +77,7 @@ pub fn due_frame(x: u8, f: u8, i: u8) -> Due
         },
         Err(fault) => Due {
             fault: fault.number(),
-            frame: 0,
+            ..Due::default()
         },
     }
 }

@@ -9,7 +9,7 @@ use crate::sizes::{PAD, SchH, SchS, Width};
 
 // Its fields, but for the fixed ones. The slot is as coded in 9.3.25: 0 is slot 1.
 #[repr(C)]
-#[derive(Clone, Copy)]
+#[derive(Clone, Copy, Default)]
 pub struct Sync {
     pub system: u8,
     pub usage: u8,
