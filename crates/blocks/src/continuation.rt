@@ -11,6 +11,7 @@ use crate::sizes::{PAD, SchF, Width};
 
 // A continuation block that was read; where it was refused, all but the fault is 0. `last` is 1 for DMAC-END, `first`
 // the DM-SDU's first bit and `bits` the number of its message bits.
+// Kept: C has this struct, with numbers for the fault and for the flag.
 #[repr(C)]
 #[derive(Clone, Copy, Default)]
 pub struct Continuation {

@@ -15,6 +15,7 @@ use crate::sync::{Checked, Sync, checked_blocks};
 use crate::widths::NO_ENTRY;
 
 // An address element: its type, and the SSI, 0 where it is absent.
+// Kept: the type is a number in C too (`pierstrand.h`).
 #[repr(C)]
 #[derive(Clone, Copy, Default)]
 pub struct Address {
@@ -38,6 +39,7 @@ impl Address {
 
 // What a message's header says of it: addresses, MNI, message type, and the dependent elements as one run of bits with
 // its width.
+// Kept: the width stands beside the elements in C too.
 #[repr(C)]
 #[derive(Clone, Copy, Default)]
 pub struct Fields {
@@ -51,6 +53,7 @@ pub struct Fields {
 
 // A header that was read; where it was refused, all but the fault is 0. `fragmented` is the flag, `count` the number of
 // SCH/F slots, `first` the DM-SDU's first bit in SCH/H and `bits` the number of its message bits.
+// Kept: C has this struct, with a number for the fault and for the flag.
 #[repr(C)]
 #[derive(Clone, Copy, Default)]
 pub struct Header {
@@ -91,7 +94,7 @@ pub fn address_width(kind: u8) -> usize
     }
 }
 
-// An address as it stands, and the bit after it.
+// An address as it stands, and the bit after it. Kept: a block and a bit of it, here and below, as `bits` takes them.
 #[derive(Clone, Copy)]
 struct Addressed {
     address: Address,
@@ -100,10 +103,12 @@ struct Addressed {
 
 #[tactic(auto, using(crate::proofs::HeaderLaws::addresses))]
 fn address_at(h: &[u8], at: usize) -> Addressed
-    requires { (at + 26 ≤ 8 * length h.now) × (at ≤ 4096) }
+    requires lent { at + 26 ≤ 8 * length h.now }
+    requires near { at ≤ 4096 }
     ensures { result ≡ address_at at (bits_of h.now) }
 {
     let element: u32 = bits::get(h, at, Address::BITS);
+    // Kept: `as`, here and where else a number has become small; `try_from` has an error that cannot come.
     let kind = (element >> Width::ADDRESS) as u8;
     if kind == Address::ABSENT {
         return Addressed {
@@ -134,7 +139,8 @@ pub(crate) struct Tail {
 // The tail that starts at bit `at` of a lent block.
 #[tactic(auto, using(crate::proofs::HeaderLaws::tail_read, crate::proofs::HeaderLaws::next_le))]
 pub(crate) fn tail_at(h: &[u8], at: usize) -> Tail
-    requires { (at + 104 ≤ 8 * length h.now) × (at ≤ 2048) }
+    requires lent { at + 104 ≤ 8 * length h.now }
+    requires near { at ≤ 2048 }
     ensures { result ≡ tail_at at (bits_of h.now) }
 {
     let d = address_at(h, at);
@@ -171,7 +177,8 @@ pub(crate) fn tail_rules(t: Tail, end: usize) -> Result<(), Fault>
 
 // A tail's fields.
 pub(crate) fn tail_fields(h: &[u8], t: Tail) -> Fields
-    requires { (t.width ≤ 45) × Inside (length h.now) t.run (t.run + t.width) }
+    requires narrow { t.width ≤ 45 }
+    requires inside { Inside (length h.now) t.run (t.run + t.width) }
     ensures { result ≡ fields_with t (bits_of h.now) }
 {
     let elements = bits::get(h, t.run, t.width);
@@ -182,7 +189,7 @@ pub(crate) fn tail_fields(h: &[u8], t: Tail) -> Fields
         source,
         mni: t.mni,
         message: t.message,
-        width: t.width as u8,
+        width: t.width as u8, // Kept: as in `address_at`
         elements,
     }
 }

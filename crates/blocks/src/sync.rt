@@ -17,7 +17,7 @@ pub struct Sync {
     pub frame: u8,
 }
 
-// The first of the faults 2 to 7 that these elements give.
+// The first of the faults 2 to 7 that these elements give. Kept: seven numbers, as the definition takes them.
 fn sync_rules(
     pad: u8,
     other: u8,
