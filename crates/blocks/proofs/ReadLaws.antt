@@ -1,23 +1,23 @@
 -- What reading a header makes of its parts. Assumes nothing.
 use mathlib.Core.Path.{◌≡◌, refl, sym, ap, ◌∙◌}
-use mathlib.Core.Bool.{Bool, true, false}
-use mathlib.Core.List.{List, [], ◌∷◌, ◌++◌}
+use mathlib.Core.Bool.{Bool}
+use mathlib.Core.List.{List, ◌++◌}
 use Prim.Native.Nat.{ℕ, zero, suc, ◌+◌, ◌≤◌}
 use lib.ListN.{length, drop}
 use Rattle.std.proofs.Common.{append_assoc}
 use Rattle.bits.specs.Bits.{bits_of}
-use Rattle.blocks.specs.Faults.{unless, first_of}
-use Rattle.blocks.specs.Sdu.{is_there, bits_of_message}
+use Rattle.blocks.specs.Faults.{first_of}
+use Rattle.blocks.specs.Sdu.{bits_of_message}
 use Rattle.blocks.specs.Sync.{sync_of, sync_checks}
 use Rattle.blocks.specs.Header.{message_in, run_in, width_in, fields_with, tail_of, body_of, message_of_header}
-use Rattle.blocks.specs.Header.{rules_of, body_checks, place_rules, refused_header, header_of, answered, read_body}
+use Rattle.blocks.specs.Header.{body_checks, place_rules, refused_header, header_of, answered, read_body}
 use Rattle.blocks.specs.Header.{read_header, read_reported}
 use Rattle.blocks.specs.declared.sync.Sync.{Sync}
 use Rattle.blocks.specs.declared.header.Body.{Body}
 use Rattle.blocks.specs.declared.header.Fields.{Fields}
 use Rattle.blocks.specs.declared.header.Tail.{Tail}
 use Rattle.blocks.specs.declared.header.Header.{Header}
-use Rattle.blocks.proofs.FaultLaws.{chain_none, chain_given}
+use Rattle.blocks.proofs.FaultLaws.{no_zero, chain_none, chain_given}
 use Rattle.blocks.proofs.RuleLaws.{body_holds}
 use Rattle.blocks.proofs.WidthLaws.{width_le_45}
 
@@ -113,3 +113,10 @@ module _ (s h : List ℕ) where
     reported_passed z =
         ap (λ (n : ℕ). answered n (header_of sync (bits_of h)))
         (sym (chain_none first_rules (body_checks (bits_of h)) z) ∙ ap first_of rules_joined)
+
+-- for `read_body`, `read_header` and `read_reported`
+pub ruleset bodies = (held, body_answer, body_refused, no_zero)
+
+pub ruleset headers = (header_passed, header_refused, no_zero)
+
+pub ruleset reports = (reported_passed, reported_refused, no_zero)

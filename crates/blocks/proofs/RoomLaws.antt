@@ -49,7 +49,8 @@ stripped_when (some m) room s e = (strip_is room m s, strip_lt room m s)
 -- a room that reads well is its message, filled, and its indication is the one that filling gives
 refill_when : (t : Bool) (fill : ℕ) (room : List Bool) → eqb fill 1 ≡ t → fill ≤ 1 → is_there (unfilled t room) ≡ true
     → (room ≡ filled (length room) (bits_of_message (unfilled t room)))
-    × (fill_told (length room) (bits_of_message (unfilled t room)) ≡ fill) × (length (bits_of_message (unfilled t room)) ≤ length room)
+    × (fill_told (length room) (bits_of_message (unfilled t room)) ≡ fill)
+    × (length (bits_of_message (unfilled t room)) ≤ length room)
 refill_when true fill room e h i =
     let s = stripped_when (strip room) room refl i in
     let f = eqb-true fill 1 e in
@@ -62,7 +63,8 @@ refill_when false fill room e h i =
 
 pub refill : (fill : ℕ) (room : List Bool) → fill ≤ 1 → is_there (sdu_of fill room) ≡ true
     → (room ≡ filled (length room) (bits_of_message (sdu_of fill room)))
-    × (fill_told (length room) (bits_of_message (sdu_of fill room)) ≡ fill) × (length (bits_of_message (sdu_of fill room)) ≤ length room)
+    × (fill_told (length room) (bits_of_message (sdu_of fill room)) ≡ fill)
+    × (length (bits_of_message (sdu_of fill room)) ≤ length room)
 refill fill room h i = refill_when (eqb fill 1) fill room refl h i
 
 -- ---- a room in its block

@@ -94,3 +94,6 @@ module _ (m w e : ℕ) {E : Entry} (p : E ≡ entry_of m) where
         rw (listed, lt-ltb e (2 ^ w) (shifted_out e w z))
         (ap (λ (x : ℕ). eqb x w)
         (s ∙ ap (width_of (entry_of m)) (q ∙ run_bits w e) ∙ width_pad (entry_of m) (bits_n w e) (64 - w)))
+
+-- for `run_fits`
+pub ruleset runs = (run_unlisted, run_wide, run_large, run_read, shifted_out)

@@ -11,8 +11,9 @@ use crate::sizes::{PAD, SchF, Width};
 
 // A continuation block that was read; where it was refused, all but the fault is 0. `last` is 1 for DMAC-END, `first`
 // the DM-SDU's first bit and `bits` the number of its message bits.
+// Kept: C has this struct, with numbers for the fault and for the flag.
 #[repr(C)]
-#[derive(Clone, Copy)]
+#[derive(Clone, Copy, Default)]
 pub struct Continuation {
     pub fault: u8,
     pub last: u8,
@@ -25,9 +26,7 @@ fn refused(fault: Fault) -> Continuation
 {
     Continuation {
         fault: fault.number(),
-        last: 0,
-        first: 0,
-        bits: 0,
+        ..Continuation::default()
     }
 }
 
@@ -47,6 +46,7 @@ fn block_end(s: &[u8; SchF::BYTES]) -> Result<usize, Fault>
 }
 
 // Reads a continuation block; copies nothing.
+#[tactic(auto, using(crate::proofs::FaultLaws::no_zero), unfolding(crate::specs::Continuation::read_continuation))]
 pub fn read_continuation(s: &[u8]) -> Continuation
     ensures { result ≡ read_continuation s.now }
 {

@@ -9,7 +9,7 @@ use crate::sizes::{PAD, SchH, SchS, Width};
 
 // Its fields, but for the fixed ones. The slot is as coded in 9.3.25: 0 is slot 1.
 #[repr(C)]
-#[derive(Clone, Copy)]
+#[derive(Clone, Copy, Default)]
 pub struct Sync {
     pub system: u8,
     pub usage: u8,
@@ -17,7 +17,7 @@ pub struct Sync {
     pub frame: u8,
 }
 
-// The first of the faults 2 to 7 that these elements give.
+// The first of the faults 2 to 7 that these elements give. Kept: seven numbers, as the definition takes them.
 fn sync_rules(
     pad: u8,
     other: u8,
@@ -58,6 +58,7 @@ pub(crate) struct Checked<'a> {
 }
 
 // A header's two lent blocks, or the first of the faults 1 to 7 that they give.
+#[tactic(auto, unfolding(crate::specs::Sync::sync_checks, crate::specs::Sync::sync_of))]
 pub(crate) fn checked_blocks<'a>(s: &[u8], h: &'a [u8]) -> Result<Checked<'a>, Fault>
     ensures faults { refusal result ≡ first_of (sync_checks s.now h.now) }
     ensures sync { IfOk result (λ x. x.sync ≡ sync_of (bits_of s.now)) }
@@ -86,7 +87,7 @@ pub(crate) fn checked_blocks<'a>(s: &[u8], h: &'a [u8]) -> Result<Checked<'a>, F
 
 // The fields as they stand.
 #[tactic(auto, unfolding(crate::specs::Sync::sync_of))]
-fn sync_of(s: &[u8; SchS::BYTES]) -> Sync
+pub(crate) fn sync_of(s: &[u8; SchS::BYTES]) -> Sync
     ensures { result ≡ sync_of (bits_of s.now) }
 {
     Sync {
