@@ -90,8 +90,7 @@ slots r = slots_from r.frame (first_frame r) r.frames (passed_over r.slot1) (has
 -- ---- The call.
 
 -- It is refused in this order: 15, 13, 10. `most` is the limit for the number of frames, and `least` for the slot
--- count.
--- Where DN210 is the limit it is 1 to 4: of more no number of frames is taken, and of 0 none fits.
+-- count. Where DN210 is the limit it is 1 to 4: of more no number of frames is taken, and of 0 none fits.
 abbrev pub rules_of : (frame countdown answered count frames most least : ℕ) → List ℕ
 rules_of frame countdown answered count frames most least =
     unless (leb 1 frame) 15 ∷
