@@ -59,20 +59,6 @@ near_entry m p = subst Near (sym p) (nearly (entry_of m) (at_any near? table no_
 
 -- ---- the codes without entry
 
--- m is none of the n codes from `lo` on, beside what else is known of it
-abbrev pub NoneOf : Type 0 → ℕ → ℕ → ℕ → Type 0
-NoneOf B lo zero m = B
-NoneOf B lo (suc n) m = NoneOf B lo n m × (m ≡ lo + n → ⊥)
-
--- what else is known, and where m stands then
-beside : (B : Type 0) (lo n m : ℕ) → NoneOf B lo n m → B
-beside B lo zero m h = h
-beside B lo (suc n) m h = beside B lo n m h.0
-
-past : (B : Type 0) (lo n m : ℕ) → NoneOf B lo n m → lo ≤ m → lo + n ≤ m
-past B lo zero m h l = omega arith
-past B lo (suc n) m h l = let k = past B lo n m h.0 l in let z : m ≡ lo + n → ⊥ = h.1 in omega arith
-
 -- a run of n entries that are none
 none_in : (xs ys : List Entry) (n m : ℕ) → length xs ≤ m → m < length xs + n
     → get_or (xs ++ (replicate n no_entry ++ ys)) m no_entry ≡ no_entry
@@ -95,11 +81,8 @@ unlisted_when false true m a b h l =
 unlisted_when false false m a b h l = sym (get_or-eq_default table no_entry (ltb-false m 32 b))
 
 -- the messages are 0 to 3 and 8 to 24
-pub unlisted : (m : ℕ) → NoneOf (NoneOf (Unit {0}) 0 4 m) 8 17 m → no_entry ≡ entry_of m
-unlisted m h =
-    let early = NoneOf (Unit {0}) 0 4 m in
-    unlisted_when (ltb m 8) (ltb m 32) m refl refl (past (Unit {0}) 0 4 m (beside early 8 17 m h) (omega arith))
-    (past early 8 17 m h)
+pub unlisted : (m : ℕ) → 4 ≤ m → (8 ≤ m → 25 ≤ m) → no_entry ≡ entry_of m
+unlisted m h l = unlisted_when (ltb m 8) (ltb m 32) m refl refl h l
 
 -- ---- what flags add
 

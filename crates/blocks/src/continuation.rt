@@ -11,8 +11,9 @@ use crate::sizes::{PAD, SchF, Width};
 
 // A continuation block that was read; where it was refused, all but the fault is 0. `last` is 1 for DMAC-END, `first`
 // the DM-SDU's first bit and `bits` the number of its message bits.
+// Kept: C has this struct, with numbers for the fault and for the flag.
 #[repr(C)]
-#[derive(Clone, Copy)]
+#[derive(Clone, Copy, Default)]
 pub struct Continuation {
     pub fault: u8,
     pub last: u8,
@@ -25,9 +26,7 @@ fn refused(fault: Fault) -> Continuation
 {
     Continuation {
         fault: fault.number(),
-        last: 0,
-        first: 0,
-        bits: 0,
+        ..Continuation::default()
     }
 }
 

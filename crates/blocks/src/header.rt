@@ -5,7 +5,7 @@ ghost use Rattle.blocks.specs.Faults.{number_of, refusal, first_of};
 ghost use Rattle.blocks.specs.Sdu.{bits_of_message};
 ghost use Rattle.blocks.specs.Sync.{sync_of, sync_checks};
 ghost use Rattle.blocks.specs.Header.{address_width, address_at, tail_at, tail_rules, fields_with, shape, sdu_at};
-ghost use Rattle.blocks.specs.Header.{body_of, message_of_header, body_rules, body_checks, place_rules};
+ghost use Rattle.blocks.specs.Header.{body_of, message_of_header, body_checks, place_rules};
 ghost use Rattle.blocks.specs.Header.{no_fields, refused_header, read_body, read_header, read_reported};
 
 use crate::fault::Fault;
@@ -15,8 +15,9 @@ use crate::sync::{Checked, Sync, checked_blocks};
 use crate::widths::NO_ENTRY;
 
 // An address element: its type, and the SSI, 0 where it is absent.
+// Kept: the type is a number in C too (`pierstrand.h`).
 #[repr(C)]
-#[derive(Clone, Copy)]
+#[derive(Clone, Copy, Default)]
 pub struct Address {
     pub kind: u8,
     pub ssi: u32,
@@ -38,8 +39,9 @@ impl Address {
 
 // What a message's header says of it: addresses, MNI, message type, and the dependent elements as one run of bits with
 // its width.
+// Kept: the width stands beside the elements in C too.
 #[repr(C)]
-#[derive(Clone, Copy)]
+#[derive(Clone, Copy, Default)]
 pub struct Fields {
     pub destination: Address,
     pub source: Address,
@@ -51,8 +53,9 @@ pub struct Fields {
 
 // A header that was read; where it was refused, all but the fault is 0. `fragmented` is the flag, `count` the number of
 // SCH/F slots, `first` the DM-SDU's first bit in SCH/H and `bits` the number of its message bits.
+// Kept: C has this struct, with a number for the fault and for the flag.
 #[repr(C)]
-#[derive(Clone, Copy)]
+#[derive(Clone, Copy, Default)]
 pub struct Header {
     pub fault: u8,
     pub sync: Sync,
@@ -68,14 +71,7 @@ pub struct Header {
 pub fn no_fields() -> Fields
     ensures { result ≡ no_fields }
 {
-    Fields {
-        destination: Address { kind: 0, ssi: 0 },
-        source: Address { kind: 0, ssi: 0 },
-        mni: 0,
-        message: 0,
-        width: 0,
-        elements: 0,
-    }
+    Fields::default()
 }
 
 fn refused(fault: Fault) -> Header
@@ -83,18 +79,7 @@ fn refused(fault: Fault) -> Header
 {
     Header {
         fault: fault.number(),
-        sync: Sync {
-            system: 0,
-            usage: 0,
-            slot: 0,
-            frame: 0,
-        },
-        fragmented: 0,
-        count: 0,
-        countdown: 0,
-        fields: no_fields(),
-        first: 0,
-        bits: 0,
+        ..Header::default()
     }
 }
 
@@ -109,7 +94,7 @@ pub fn address_width(kind: u8) -> usize
     }
 }
 
-// An address as it stands, and the bit after it.
+// An address as it stands, and the bit after it. Kept: a block and a bit of it, here and below, as `bits` takes them.
 #[derive(Clone, Copy)]
 struct Addressed {
     address: Address,
@@ -118,10 +103,12 @@ struct Addressed {
 
 #[tactic(auto, using(crate::proofs::HeaderLaws::addresses))]
 fn address_at(h: &[u8], at: usize) -> Addressed
-    requires { (at + 26 ≤ 8 * length h.now) × (at ≤ 4096) }
+    requires lent { at + 26 ≤ 8 * length h.now }
+    requires near { at ≤ 4096 }
     ensures { result ≡ address_at at (bits_of h.now) }
 {
     let element: u32 = bits::get(h, at, Address::BITS);
+    // Kept: `as`, here and where else a number has become small; `try_from` has an error that cannot come.
     let kind = (element >> Width::ADDRESS) as u8;
     if kind == Address::ABSENT {
         return Addressed {
@@ -152,7 +139,8 @@ pub(crate) struct Tail {
 // The tail that starts at bit `at` of a lent block.
 #[tactic(auto, using(crate::proofs::HeaderLaws::tail_read, crate::proofs::HeaderLaws::next_le))]
 pub(crate) fn tail_at(h: &[u8], at: usize) -> Tail
-    requires { (at + 104 ≤ 8 * length h.now) × (at ≤ 2048) }
+    requires lent { at + 104 ≤ 8 * length h.now }
+    requires near { at ≤ 2048 }
     ensures { result ≡ tail_at at (bits_of h.now) }
 {
     let d = address_at(h, at);
@@ -174,20 +162,14 @@ pub(crate) fn tail_at(h: &[u8], at: usize) -> Tail
     }
 }
 
-// The first of the faults 8 and 9 that a tail's elements give in a block whose room ends before bit `end`.
-pub(crate) fn tail_rules(
-    to: u8,
-    from: u8,
-    width: usize,
-    first: usize,
-    end: usize,
-) -> Result<(), Fault>
-    ensures { refusal result ≡ first_of (tail_rules to from width first end) }
+// The first of the faults 8 and 9 that a tail gives in a block whose room ends before bit `end`.
+pub(crate) fn tail_rules(t: Tail, end: usize) -> Result<(), Fault>
+    ensures { refusal result ≡ first_of (tail_rules t.destination.kind t.source.kind t.width t.first end) }
 {
-    if 2 < to || 2 < from {
+    if 2 < t.destination.kind || 2 < t.source.kind {
         return Err(Fault::AddressType);
     }
-    if usize::from(NO_ENTRY) <= width || end < first {
+    if usize::from(NO_ENTRY) <= t.width || end < t.first {
         return Err(Fault::MessageType);
     }
     Ok(())
@@ -195,7 +177,8 @@ pub(crate) fn tail_rules(
 
 // A tail's fields.
 pub(crate) fn tail_fields(h: &[u8], t: Tail) -> Fields
-    requires { (t.width ≤ 45) × Inside (length h.now) t.run (t.run + t.width) }
+    requires narrow { t.width ≤ 45 }
+    requires inside { Inside (length h.now) t.run (t.run + t.width) }
     ensures { result ≡ fields_with t (bits_of h.now) }
 {
     let elements = bits::get(h, t.run, t.width);
@@ -206,7 +189,7 @@ pub(crate) fn tail_fields(h: &[u8], t: Tail) -> Fields
         source,
         mni: t.mni,
         message: t.message,
-        width: t.width as u8,
+        width: t.width as u8, // Kept: as in `address_at`
         elements,
     }
 }
@@ -257,39 +240,17 @@ fn body_of(h: &[u8; SchH::BYTES]) -> Body
     }
 }
 
-// The first of the faults 10, 8 and 9 that these elements give.
-fn body_rules(
-    fragmented: u8,
-    count: u8,
-    to: u8,
-    from: u8,
-    width: usize,
-    first: usize,
-) -> Result<(), Fault>
-    ensures { refusal result ≡ first_of (body_rules fragmented count to from width first) }
-{
-    if count < fragmented {
-        return Err(Fault::Count);
-    }
-    tail_rules(to, from, width, first, SchH::BITS)
-}
-
 // Where the message ends in SCH/H, or the first of the faults from 10 on.
 fn body_end(h: &[u8; SchH::BYTES], b: Body) -> Result<usize, Fault>
     requires { b ≡ body_of (bits_of h.now) }
     ensures faults { refusal result ≡ first_of (body_checks (bits_of h.now)) }
     ensures end { IfOk result (λ n. n ≡ b.tail.first + length (bits_of_message (message_of_header b (bits_of h.now)))) }
 {
-    let t = b.tail;
-    body_rules(
-        b.fragmented,
-        b.count,
-        t.destination.kind,
-        t.source.kind,
-        t.width,
-        t.first,
-    )?;
-    sdu_end(h, b.fill, t.first, SchH::BITS)
+    if b.count < b.fragmented {
+        return Err(Fault::Count);
+    }
+    tail_rules(b.tail, SchH::BITS)?;
+    sdu_end(h, b.fill, b.tail.first, SchH::BITS)
 }
 
 // What follows SCH/S's part: the faults from 10 on, the fields and the DM-SDU.

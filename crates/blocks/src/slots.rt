@@ -5,16 +5,17 @@ ghost use Rattle.blocks.specs.Slots.{frame_number, frames_to, due_frame, due_che
 
 use crate::fault::Fault;
 
-// A frame, or the number of the refusal.
+// A frame, or the number of the refusal. Kept: C has this struct.
 #[repr(C)]
-#[derive(Clone, Copy)]
+#[derive(Clone, Copy, Default)]
 pub struct Due {
     pub fault: u8,
     pub frame: u8,
 }
 
 // Frames 1 to 17 counted on from frame 1, as blocks go in them: how many lie before that of block `i`, from 0, after a
-// header in frame `x` with countdown `f`.
+// header in frame `x` with countdown `f`. Kept: three numbers, here and below, as the call for C and the definitions
+// have them.
 fn since_1(x: u8, f: u8, i: u8) -> u16
     ensures { result ≡ since1 x f i }
 {
@@ -35,7 +36,7 @@ pub fn frames_to(x: u8, f: u8, i: u8) -> u16
 pub fn frame_of(x: u8, f: u8, i: u8) -> u8
     ensures { result ≡ due_frame x f i }
 {
-    (since_1(x, f, i) % 17 + 1) as u8
+    (since_1(x, f, i) % 17 + 1) as u8 // Kept: `try_from` has an error that cannot come
 }
 
 // The number of the frame that comes `k` frames after frame `x`.
@@ -46,7 +47,7 @@ pub fn frame_number(x: u8, k: u16) -> u8
     if n == 0 {
         return 1;
     }
-    ((n - 1) % 18 + 1) as u8
+    ((n - 1) % 18 + 1) as u8 // Kept: as in `frame_of`
 }
 
 // The first of the faults 7, 13 and 14 that these numbers give.
@@ -77,7 +78,7 @@ pub fn due_frame(x: u8, f: u8, i: u8) -> Due
         },
         Err(fault) => Due {
             fault: fault.number(),
-            frame: 0,
+            ..Due::default()
         },
     }
 }

@@ -9,7 +9,7 @@ use crate::sizes::{PAD, SchH, SchS, Width};
 
 // Its fields, but for the fixed ones. The slot is as coded in 9.3.25: 0 is slot 1.
 #[repr(C)]
-#[derive(Clone, Copy)]
+#[derive(Clone, Copy, Default)]
 pub struct Sync {
     pub system: u8,
     pub usage: u8,
@@ -17,7 +17,7 @@ pub struct Sync {
     pub frame: u8,
 }
 
-// The first of the faults 2 to 7 that these elements give.
+// The first of the faults 2 to 7 that these elements give. Kept: seven numbers, as the definition takes them.
 fn sync_rules(
     pad: u8,
     other: u8,

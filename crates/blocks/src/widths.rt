@@ -51,6 +51,7 @@ fn flagged_twice(width: u8, place: u8, adds: u8, place2: u8, adds2: u8) -> Entry
 }
 
 // The entry of a message type (9.3.19), as 9.4 and 9.5 have its elements.
+// Kept: the type is a number, as C gives it and theorems name it.
 #[tactic(auto, unfolding(crate::specs::Widths::entry_of))]
 pub fn entry_of(message: u8) -> Entry
     ensures { result ≡ entry_of message }
@@ -99,7 +100,8 @@ fn added_by(s: &[u8], at: usize, flag: Flag) -> usize
 // The width of a message's elements that start at bit `at`: its flags name the case.
 #[tactic(auto, using(crate::proofs::WidthLaws::width_read))]
 pub(crate) fn width_at(s: &[u8], at: usize, message: u8) -> usize
-    requires { at + 23 ≤ 8 * length s.now × (at ≤ 4096) }
+    requires lent { at + 23 ≤ 8 * length s.now }
+    requires near { at ≤ 4096 }
     ensures { result ≡ width_of (entry_of message) (drop at (bits_of s.now)) }
 {
     let e = entry_of(message);
