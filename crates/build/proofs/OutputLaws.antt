@@ -13,6 +13,7 @@ use Rattle.bits.proofs.Bytes.{length_bits_of}
 use Rattle.bits.proofs.Over.{over_over, bytes_written}
 use Rattle.std.specs.Prelude.{Ok, cond}
 use Rattle.blocks.specs.Faults.{number_of}
+use Rattle.blocks.proofs.FaultLaws.{no_zero}
 use Rattle.blocks.specs.Sync.{sync_parts}
 use Rattle.blocks.specs.Slots.{in_header}
 use Rattle.build.specs.Plan.{header_bits, fragmented_for, blocks_for, build_fault, no_plan, plan_as, planned_of}
@@ -24,7 +25,6 @@ use Rattle.blocks.specs.declared.sync.Sync.{Sync}
 use Rattle.blocks.specs.declared.header.Fields.{Fields}
 use Rattle.build.specs.declared.plan.Plan.{Plan}
 use Rattle.build.proofs.BuiltLaws.{length_sync, front_length, built_length}
-use Rattle.build.proofs.PlanLaws.{numbered}
 use Rattle.build.proofs.RangeLaws.{InRange, in_range, inside_le}
 
 -- the plan's fault is the build's
@@ -48,7 +48,7 @@ module _ (y : Sync) (countdown : ℕ) (g : Fields) (n : ℕ) (message old : List
   unfolding planned_of build_of out_of
   refused_build f q =
       let e : number_of f ≡ fault = ap (λ (x : Planned). x.fault) q ∙ plan_fault fault (header_bits g) n in
-      rw (← e) (refused_when (number_of f) (numbered f))
+      rw (← e) (refused_when (number_of f) (no_zero f))
     where
       refused_when : (k : ℕ) → (k ≡ 0 → ⊥)
           → (record { fault = k; blocks = 0 } ≡ built_as k (blocks_for g n))

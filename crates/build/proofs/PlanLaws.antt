@@ -3,7 +3,6 @@ use mathlib.Core.Path.{◌≡◌, refl, sym, ap, ◌∙◌}
 use mathlib.Core.Bool.{true, false}
 use mathlib.Core.List.{List, ◌++◌}
 use Prim.Native.Nat.{ℕ, zero, suc, ◌*◌}
-use native.Mathlib.Omega.{arith}
 use lib.Dec.{leb}
 use Rattle.blocks.specs.Widths.{entry_of, run_fits}
 use Rattle.build.specs.Plan.{number_rules, address_rules, element_rules, header_rules, length_rules, header_bits}
@@ -11,54 +10,9 @@ use Rattle.build.specs.Plan.{build_fault}
 use Rattle.build.specs.Plan.{no_plan, plan_as, plan_of, planned_of}
 use Rattle.blocks.specs.Faults.{first_of, number_of}
 use Rattle.blocks.specs.declared.fault.Fault.{Fault}
-use Rattle.blocks.specs.declared.fault.Fault.TheVariants.{
-  Length,
-  Pad,
-  System,
-  SyncType,
-  Communication,
-  Encryption,
-  Frame,
-  AddressType,
-  MessageType,
-  Count,
-  Fill,
-  PduType,
-  Range,
-  TooLong,
-  ReportFrame,
-  ReportSlot,
-  Buffer,
-  Place,
-  NotSdsTl,
-  TooShort,
-}
 use Rattle.blocks.specs.declared.sync.Sync.{Sync}
 use Rattle.blocks.specs.declared.header.Fields.{Fields}
-use Rattle.blocks.proofs.FaultLaws.{chain_none, chain_given}
-
--- a fault has a number
-pub numbered : (f : Fault) → number_of f ≡ 0 → ⊥
-numbered Length e = omega arith
-numbered Pad e = omega arith
-numbered System e = omega arith
-numbered SyncType e = omega arith
-numbered Communication e = omega arith
-numbered Encryption e = omega arith
-numbered Frame e = omega arith
-numbered AddressType e = omega arith
-numbered MessageType e = omega arith
-numbered Count e = omega arith
-numbered Fill e = omega arith
-numbered PduType e = omega arith
-numbered Range e = omega arith
-numbered TooLong e = omega arith
-numbered ReportFrame e = omega arith
-numbered ReportSlot e = omega arith
-numbered Buffer e = omega arith
-numbered Place e = omega arith
-numbered NotSdsTl e = omega arith
-numbered TooShort e = omega arith
+use Rattle.blocks.proofs.FaultLaws.{chain_none, chain_given, no_zero}
 
 -- ---- the rules, one group after the other
 
@@ -69,8 +23,8 @@ refused_plan (suc f) h n r = refl
 given_by : (a b : List ℕ) (h n : ℕ) (f : Fault) → number_of f ≡ first_of a
     → no_plan (number_of f) ≡ plan_as (first_of (a ++ b)) h n
 given_by a b h n f q =
-    refused_plan (number_of f) h n (numbered f)
-    ∙ ap (λ (x : ℕ). plan_as x h n) (q ∙ sym (chain_given a b (rw q at (numbered f))))
+    refused_plan (number_of f) h n (no_zero f)
+    ∙ ap (λ (x : ℕ). plan_as x h n) (q ∙ sym (chain_given a b (rw q at (no_zero f))))
 
 module _ (y : Sync) (countdown : ℕ) (g : Fields) (n bytes lent : ℕ) where
   abbrev numbers : List ℕ
