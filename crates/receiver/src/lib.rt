@@ -4,10 +4,11 @@
 pub mod answer;
 pub mod assembly;
 
-ghost use Rattle.std.specs.Prelude.{◌≡◌, true, false, cond, is_ok, length};
+ghost use Rattle.std.specs.Prelude.{◌≡◌, true, false, cond, is_ok, [], length};
 ghost use Rattle.blocks.specs.Faults.{refusal};
 ghost use Rattle.history.specs.Step.{is_over};
 ghost use Rattle.reports.specs.Lent.{brought, lent};
+ghost use Rattle.reports.specs.Nears.{nears_of};
 ghost use Rattle.reports.specs.Turns.{follows};
 ghost use Rattle.receiver.specs.Reached.{refused_with, Reached, Hears};
 ghost use Rattle.receiver.specs.View.{no_place, Brings, new_with, fresh_of};
@@ -16,7 +17,7 @@ use crate::answer::{Answer, lost_of, told, with_loss};
 use crate::assembly::{Assembly, bits_after, clear, store_after};
 use blocks::fault::Fault;
 use history::{Nears, Place, What};
-use reports::near::{fall, keep, no_nears, older_nears};
+use reports::near::{fall, keep, no_nears};
 use reports::place::follows;
 use reports::read::{Brought, headless, read};
 use reports::report::report_rules;
@@ -95,6 +96,15 @@ fn heard(
     }
 }
 
+// Leaves no earlier headers where they are gone.
+fn forget(gone: bool, near: &mut Nears)
+    ensures { near.new ≡ cond gone (nears_of []) near.old }
+{
+    if gone {
+        *near = no_nears();
+    }
+}
+
 impl Receiver {
     // One that has heard nothing.
     fn new(settings: Settings) -> Receiver
@@ -137,7 +147,7 @@ impl Receiver {
     // the record is put together in one place. To a refused one no time has gone by, and it brings nothing. What is
     // lost is told of the assembly as it was before the report.
     fn reply(
-        self,
+        mut self,
         accepted: Result<(), Fault>,
         q: Place,
         kind: u8,
@@ -151,36 +161,28 @@ impl Receiver {
             message.old message.new }
     {
         let ok = accepted.is_ok();
-        let last = self.place;
-        let turn = in_turn(accepted, last, q);
+        let turn = in_turn(accepted, self.place, q);
         let tick = either(ok, q, no_place());
         let own = self.assembly.run;
         let lost = broken_off(turn, own);
         let run = older_run(turn, tick, own);
-        let mut near = older_nears(turn, self.near);
         let joined = self.assembly.bits;
         let bits = either(turn, joined, 0);
-        let mut store = self.assembly.store;
-        clear(!turn, &mut store);
+        forget(!turn, &mut self.near);
+        clear(!turn, &mut self.assembly.store);
         let x = heard(accepted, self.settings, q, kind, blocks);
-        let v = judge(x, run, &near, tick, lost);
-        let answer = told(v, x, run.fields, bits, &store, blocks, message);
-        store_after(v.act, &mut store, bits, x, blocks);
+        let v = judge(x, run, &self.near, tick, lost);
+        let answer = told(v, x, run.fields, bits, &self.assembly.store, blocks, message);
+        store_after(v.act, &mut self.assembly.store, bits, x, blocks);
         let over = ending(accepted, q);
-        fall(over, &mut near);
-        keep(v.near, over, x, &mut near);
+        fall(over, &mut self.near);
+        keep(v.near, over, x, &mut self.near);
+        self.place = either(ok, q, self.place);
+        self.assembly.run = run_after(v.act, x, q.frame, run);
+        self.assembly.bits = bits_after(v.act, bits, x.bits);
         let loss = lost_of(v.dropped, own.fields.source.ssi, own.fields.message, joined);
         Reply {
-            receiver: Receiver {
-                settings: self.settings,
-                place: either(ok, q, last),
-                near,
-                assembly: Assembly {
-                    run: run_after(v.act, x, q.frame, run),
-                    bits: bits_after(v.act, bits, x.bits),
-                    store,
-                },
-            },
+            receiver: self,
             answer: with_loss(answer, loss),
         }
     }
