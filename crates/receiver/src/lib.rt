@@ -11,7 +11,7 @@ ghost use Rattle.reports.specs.Lent.{brought, lent};
 ghost use Rattle.reports.specs.Nears.{nears_of};
 ghost use Rattle.reports.specs.Turns.{follows};
 ghost use Rattle.receiver.specs.Reached.{refused_with, Reached, Hears};
-ghost use Rattle.receiver.specs.View.{no_place, Brings, new_with, fresh_of};
+ghost use Rattle.receiver.specs.View.{no_place, replied, Brings, new_with, fresh_of};
 
 use crate::answer::{Answer, lost_of, told, with_loss};
 use crate::assembly::{Assembly, bits_after, clear, store_after};
@@ -143,21 +143,21 @@ impl Receiver {
         }
     }
 
-    // The reply to a report that is accepted, or refused for a fault: it is read and judged, the answer is told, and then
-    // the record is put together in one place. To a refused one no time has gone by, and it brings nothing. What is
-    // lost is told of the assembly as it was before the report.
+    // The reply to a report that is accepted, or refused for a fault: it is read and judged, and the answer is told. To a
+    // refused one no time has gone by, and it brings nothing. What is lost is told of the assembly as it was before the
+    // report.
     fn reply(
-        mut self,
+        &mut self,
         accepted: Result<(), Fault>,
         q: Place,
         kind: u8,
         blocks: &[u8],
         message: &mut [u8],
-    ) -> Reply
-        requires reached { Reached self }
+    ) -> Answer
+        requires reached { Reached self.old }
         requires refused { refusal accepted ≡ refused_with (lent q.frame q.slot kind blocks.now) message.old }
-        ensures { Reached result.receiver
-            × Hears self (lent q.frame q.slot kind blocks.now) result
+        ensures { Reached self.new
+            × Hears self.old (lent q.frame q.slot kind blocks.now) (replied self.new result)
             message.old message.new }
     {
         let ok = accepted.is_ok();
@@ -181,22 +181,47 @@ impl Receiver {
         self.assembly.run = run_after(v.act, x, q.frame, run);
         self.assembly.bits = bits_after(v.act, bits, x.bits);
         let loss = lost_of(v.dropped, own.fields.source.ssi, own.fields.message, joined);
-        Reply {
-            receiver: self,
-            answer: with_loss(answer, loss),
-        }
+        with_loss(answer, loss)
     }
 
-    // Hears a slot report: `kind` 1 lends no bytes and brings nothing, 2 lends SCH/S with SCH/H (24 bytes), 3 lends
-    // SCH/F (34 bytes). Refused in the order 15, 16, 1, 17 (the message's buffer is 512 bytes or more); then the
-    // receiver and the buffer are as before. Asks for a receiver that `fresh` or an earlier `hear` gave, and gives
-    // such a one.
-    pub fn hear(self, frame: u8, slot: u8, kind: u8, blocks: &[u8], message: &mut [u8]) -> Reply
+    // Hears a slot report where the receiver stands: `kind` 1 lends no bytes and brings nothing, 2 lends SCH/S with
+    // SCH/H (24 bytes), 3 lends SCH/F (34 bytes). Refused in the order 15, 16, 1, 17 (the message's buffer is 512 bytes
+    // or more); then the receiver and the buffer are as before. Asks for a receiver that `fresh` or an earlier report
+    // gave, and leaves such a one.
+    pub fn hear_in_place(
+        &mut self,
+        frame: u8,
+        slot: u8,
+        kind: u8,
+        blocks: &[u8],
+        message: &mut [u8],
+    ) -> Answer
+        requires { Reached self.old }
+        ensures { Reached self.new
+            × Hears self.old (lent frame slot kind blocks.now) (replied self.new result)
+            message.old message.new }
+    {
+        let accepted = report_rules(frame, slot, kind, blocks.len(), message.len());
+        self.reply(accepted, Place { frame, slot }, kind, blocks, message)
+    }
+
+    // The same by value: the receiver is given back, with the answer.
+    pub fn hear(
+        mut self,
+        frame: u8,
+        slot: u8,
+        kind: u8,
+        blocks: &[u8],
+        message: &mut [u8],
+    ) -> Reply
         requires { Reached self }
         ensures { Reached result.receiver
             × Hears self (lent frame slot kind blocks.now) result message.old message.new }
     {
-        let accepted = report_rules(frame, slot, kind, blocks.len(), message.len());
-        self.reply(accepted, Place { frame, slot }, kind, blocks, message)
+        let answer = self.hear_in_place(frame, slot, kind, blocks, message);
+        Reply {
+            receiver: self,
+            answer,
+        }
     }
 }
