@@ -14,7 +14,7 @@ use bits::Found;
 
 // An address element: its type, and the SSI, 0 where it is absent.
 #[repr(C)]
-#[derive(Clone, Copy)]
+#[derive(Clone, Copy, Default)]
 pub struct Address {
     pub kind: u8,
     pub ssi: u32,
@@ -37,7 +37,7 @@ impl Address {
 // What a message's header says of it: addresses, MNI, message type, and the dependent elements as one run of bits with
 // its width.
 #[repr(C)]
-#[derive(Clone, Copy)]
+#[derive(Clone, Copy, Default)]
 pub struct Fields {
     pub destination: Address,
     pub source: Address,

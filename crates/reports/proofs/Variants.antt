@@ -1,15 +1,9 @@
 -- What a report brings, and what becomes of the assembly, told by the questions that the code asks. Assumes nothing.
-use mathlib.Core.Path.{◌≡◌, refl, sym, ◌∙◌, ap, ap₂}
-use mathlib.Core.Bool.{Bool, true, false, cond}
-use Prim.Native.Nat.{ℕ}
-use lib.Dec.{eqb}
-use borrow.Author.Tests.{eqb-true}
+use mathlib.Core.Path.{◌≡◌, refl, ◌∙◌, ap₂}
+use mathlib.Core.Bool.{Bool, cond}
 use Rattle.history.specs.Step.{clears, joins}
 use Rattle.history.specs.declared.Act.{Act}
 use Rattle.history.specs.declared.Act.TheVariants.{Stays, Ends, Opens, Takes}
-use Rattle.history.specs.declared.What.{What}
-use Rattle.history.specs.declared.What.TheVariants.{Nothing, Fragmented, Unfragmented, Frag, End}
-use Rattle.history.proofs.Verdicts.{absurd_bool}
 
 -- An act is known by its two answers.
 abbrev act_of : Bool → Bool → Act

@@ -60,10 +60,7 @@ fn heard_slot(slot: u8) -> bool
 pub fn report_rules(frame: u8, slot: u8, kind: u8, lent: usize, buffer: usize) -> Result<(), Fault>
     ensures { refusal result ≡ first_of (report_rules frame slot kind lent buffer) }
 {
-    if frame < 1 {
-        return Err(Fault::ReportFrame);
-    }
-    if 18 < frame {
+    if frame < 1 || 18 < frame {
         return Err(Fault::ReportFrame);
     }
     if !heard_slot(slot) {
