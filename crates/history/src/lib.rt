@@ -9,8 +9,9 @@ use blocks::header::Fields;
 use store::Raw;
 
 // A frame and a slot; slot 0 where no report has been heard.
+// Kept: slot 0 for none, for pierstrand.h shows the receiver.
 #[repr(C)]
-#[derive(Clone, Copy)]
+#[derive(Clone, Copy, Default)]
 pub struct Place {
     pub frame: u8,
     pub slot: u8,
@@ -28,7 +29,7 @@ pub enum What {
 
 // An earlier header for this unit that one in the slot next in turn can be a copy of: its SCH/H but for the countdown,
 // and the countdown that the copy has there.
-#[derive(Clone, Copy)]
+#[derive(Clone, Copy, Default)]
 pub struct Near {
     pub raw: Raw,
     pub countdown: u64,
@@ -36,6 +37,7 @@ pub struct Near {
 
 // Those that there are, the oldest first, and how many: each takes three numbers, the two of its SCH/H and its
 // countdown. What is not there is zero.
+// Kept: a count beside an array of numbers, for pierstrand.h shows the receiver.
 #[repr(C)]
 #[derive(Clone, Copy)]
 pub struct Nears {
@@ -46,8 +48,9 @@ pub struct Nears {
 // What is kept of an open run but for its bits, where `held` is 1: what its header reads as and its SCH/H but for the
 // countdown; one more than the countdown that a repeat of it has now, 0 when there can be none any more; one less than
 // its slot count; its frame and countdown, from which the due slots are counted; the number of blocks kept.
+// Kept: `held` beside the run, for pierstrand.h shows the receiver.
 #[repr(C)]
-#[derive(Clone, Copy)]
+#[derive(Clone, Copy, Default)]
 pub struct Open {
     pub fields: Fields,
     pub raw: Raw,
@@ -70,8 +73,9 @@ pub enum Act {
 
 // A message that is lost on the way, of the two types that are told of: its source address (the SSI, 0 where it is
 // absent), its message type, and the bits joined so far. Three zeros where there is none.
+// Kept: zeros, and the message type a number, for pierstrand.h shows the answer.
 #[repr(C)]
-#[derive(Clone, Copy)]
+#[derive(Clone, Copy, Default)]
 pub struct Lost {
     pub source: u32,
     pub message: u8,

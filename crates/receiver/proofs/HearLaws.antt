@@ -65,7 +65,7 @@ store_left : (t : Bool) (j : List Bool) → cond (not t) (store_of []) (store_of
 store_left true j = refl
 store_left false j = refl
 
-nears_left : (t : Bool) (ns : List Near) → cond t (nears_of ns) (nears_of []) ≡ nears_of (older_near t ns)
+nears_left : (t : Bool) (ns : List Near) → cond (not t) (nears_of []) (nears_of ns) ≡ nears_of (older_near t ns)
 nears_left true ns = refl
 nears_left false ns = refl
 
@@ -89,7 +89,7 @@ module _ (s : Settings) (ls : Line Event) {before : Receiver} (k : Leads s ls be
     run_is : older_run turn q before.assembly.run ≡ left.assembly.run
     run_is = rw (turn_is, k.there) refl
 
-    near_is : cond turn before.near (nears_of []) ≡ nears_of left.near
+    near_is : cond (not turn) (nears_of []) before.near ≡ nears_of left.near
     near_is = rw (turn_is, k.there) (nears_left (in_turn state.last q) state.near)
 
     bits_is : cond turn before.assembly.bits 0 ≡ length left.assembly.joined
@@ -152,10 +152,10 @@ module _ {before : Receiver} (k : Reached before) (turn : Bool) where
   near_few : length kept_near ≤ 7
   near_few = older_few turn _ (few_near k.settings k.heard k.leads.accepted)
 
-  pub near_known : {near : Nears} → near ≡ cond turn before.near (nears_of []) → near ≡ nears_of kept_near
+  pub near_known : {near : Nears} → near ≡ cond (not turn) (nears_of []) before.near → near ≡ nears_of kept_near
   near_known e = e ∙ rw k.leads.there (nears_left turn (after (reports k.settings k.heard)).near)
 
-  pub count_few : {near : Nears} → near ≡ cond turn before.near (nears_of []) → near.count ≤ 7
+  pub count_few : {near : Nears} → near ≡ cond (not turn) (nears_of []) before.near → near.count ≤ 7
   count_few e = omega (arith, ap (λ (n : Nears). n.count) (near_known e), near_few)
 
 quiet_nothing : (due lost : Bool) → (on_nothing due lost).outcome ≡ Quiet
@@ -178,7 +178,7 @@ none_near true lost = refl
 none_near false lost = refl
 
 module _ {before : Receiver} (k : Reached before) (turn : Bool) {near : Nears}
-    (e : near ≡ cond turn before.near (nears_of [])) where
+    (e : near ≡ cond (not turn) (nears_of []) before.near) where
   abbrev ns : List Near
   ns = kept_near k turn
 
@@ -241,7 +241,7 @@ pub record Works (before : Receiver) (d : Result (Unit {0}) Fault) (l : Lent) (r
     pub tick_is : tick ≡ cond (is_ok d) (place l) no_place
     pub lost_is : lost ≡ broken_off turn before.assembly.run
     pub run_is : run ≡ older_run turn tick before.assembly.run
-    pub near_is : near ≡ cond turn before.near (nears_of [])
+    pub near_is : near ≡ cond (not turn) (nears_of []) before.near
     pub bits_is : bits ≡ cond turn before.assembly.bits 0
     pub store_is : store ≡ cond (not turn) (store_of []) before.assembly.store
     pub brings : Brings (refusal d) before.settings l x

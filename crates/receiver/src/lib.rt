@@ -4,19 +4,20 @@
 pub mod answer;
 pub mod assembly;
 
-ghost use Rattle.std.specs.Prelude.{◌≡◌, true, false, cond, is_ok, length};
+ghost use Rattle.std.specs.Prelude.{◌≡◌, true, false, cond, is_ok, [], length};
 ghost use Rattle.blocks.specs.Faults.{refusal};
 ghost use Rattle.history.specs.Step.{is_over};
 ghost use Rattle.reports.specs.Lent.{brought, lent};
+ghost use Rattle.reports.specs.Nears.{nears_of};
 ghost use Rattle.reports.specs.Turns.{follows};
 ghost use Rattle.receiver.specs.Reached.{refused_with, Reached, Hears};
-ghost use Rattle.receiver.specs.View.{no_place, Brings, new_with, fresh_of};
+ghost use Rattle.receiver.specs.View.{no_place, replied, Brings, new_with, fresh_of};
 
 use crate::answer::{Answer, lost_of, told, with_loss};
 use crate::assembly::{Assembly, bits_after, clear, store_after};
 use blocks::fault::Fault;
 use history::{Nears, Place, What};
-use reports::near::{fall, keep, no_nears, older_nears};
+use reports::near::{fall, keep, no_nears};
 use reports::place::follows;
 use reports::read::{Brought, headless, read};
 use reports::report::report_rules;
@@ -95,6 +96,15 @@ fn heard(
     }
 }
 
+// Leaves no earlier headers where they are gone.
+fn forget(gone: bool, near: &mut Nears)
+    ensures { near.new ≡ cond gone (nears_of []) near.old }
+{
+    if gone {
+        *near = no_nears();
+    }
+}
+
 impl Receiver {
     // One that has heard nothing.
     fn new(settings: Settings) -> Receiver
@@ -133,68 +143,85 @@ impl Receiver {
         }
     }
 
-    // The reply to a report that is accepted, or refused for a fault: it is read and judged, the answer is told, and then
-    // the record is put together in one place. To a refused one no time has gone by, and it brings nothing. What is
-    // lost is told of the assembly as it was before the report.
+    // The reply to a report that is accepted, or refused for a fault: it is read and judged, and the answer is told. To a
+    // refused one no time has gone by, and it brings nothing. What is lost is told of the assembly as it was before the
+    // report.
     fn reply(
-        self,
+        &mut self,
         accepted: Result<(), Fault>,
         q: Place,
         kind: u8,
         blocks: &[u8],
         message: &mut [u8],
-    ) -> Reply
-        requires reached { Reached self }
+    ) -> Answer
+        requires reached { Reached self.old }
         requires refused { refusal accepted ≡ refused_with (lent q.frame q.slot kind blocks.now) message.old }
-        ensures { Reached result.receiver
-            × Hears self (lent q.frame q.slot kind blocks.now) result
+        ensures { Reached self.new
+            × Hears self.old (lent q.frame q.slot kind blocks.now) (replied self.new result)
             message.old message.new }
     {
         let ok = accepted.is_ok();
-        let last = self.place;
-        let turn = in_turn(accepted, last, q);
+        let turn = in_turn(accepted, self.place, q);
         let tick = either(ok, q, no_place());
         let own = self.assembly.run;
         let lost = broken_off(turn, own);
         let run = older_run(turn, tick, own);
-        let mut near = older_nears(turn, self.near);
         let joined = self.assembly.bits;
         let bits = either(turn, joined, 0);
-        let mut store = self.assembly.store;
-        clear(!turn, &mut store);
+        forget(!turn, &mut self.near);
+        clear(!turn, &mut self.assembly.store);
         let x = heard(accepted, self.settings, q, kind, blocks);
-        let v = judge(x, run, &near, tick, lost);
-        let answer = told(v, x, run.fields, bits, &store, blocks, message);
-        store_after(v.act, &mut store, bits, x, blocks);
+        let v = judge(x, run, &self.near, tick, lost);
+        let answer = told(v, x, run.fields, bits, &self.assembly.store, blocks, message);
+        store_after(v.act, &mut self.assembly.store, bits, x, blocks);
         let over = ending(accepted, q);
-        fall(over, &mut near);
-        keep(v.near, over, x, &mut near);
+        fall(over, &mut self.near);
+        keep(v.near, over, x, &mut self.near);
+        self.place = either(ok, q, self.place);
+        self.assembly.run = run_after(v.act, x, q.frame, run);
+        self.assembly.bits = bits_after(v.act, bits, x.bits);
         let loss = lost_of(v.dropped, own.fields.source.ssi, own.fields.message, joined);
-        Reply {
-            receiver: Receiver {
-                settings: self.settings,
-                place: either(ok, q, last),
-                near,
-                assembly: Assembly {
-                    run: run_after(v.act, x, q.frame, run),
-                    bits: bits_after(v.act, bits, x.bits),
-                    store,
-                },
-            },
-            answer: with_loss(answer, loss),
-        }
+        with_loss(answer, loss)
     }
 
-    // Hears a slot report: `kind` 1 lends no bytes and brings nothing, 2 lends SCH/S with SCH/H (24 bytes), 3 lends
-    // SCH/F (34 bytes). Refused in the order 15, 16, 1, 17 (the message's buffer is 512 bytes or more); then the
-    // receiver and the buffer are as before. Asks for a receiver that `fresh` or an earlier `hear` gave, and gives
-    // such a one.
-    pub fn hear(self, frame: u8, slot: u8, kind: u8, blocks: &[u8], message: &mut [u8]) -> Reply
+    // Hears a slot report where the receiver stands: `kind` 1 lends no bytes and brings nothing, 2 lends SCH/S with
+    // SCH/H (24 bytes), 3 lends SCH/F (34 bytes). Refused in the order 15, 16, 1, 17 (the message's buffer is 512 bytes
+    // or more); then the receiver and the buffer are as before. Asks for a receiver that `fresh` or an earlier report
+    // gave, and leaves such a one.
+    pub fn hear_in_place(
+        &mut self,
+        frame: u8,
+        slot: u8,
+        kind: u8,
+        blocks: &[u8],
+        message: &mut [u8],
+    ) -> Answer
+        requires { Reached self.old }
+        ensures { Reached self.new
+            × Hears self.old (lent frame slot kind blocks.now) (replied self.new result)
+            message.old message.new }
+    {
+        let accepted = report_rules(frame, slot, kind, blocks.len(), message.len());
+        self.reply(accepted, Place { frame, slot }, kind, blocks, message)
+    }
+
+    // The same by value: the receiver is given back, with the answer.
+    pub fn hear(
+        mut self,
+        frame: u8,
+        slot: u8,
+        kind: u8,
+        blocks: &[u8],
+        message: &mut [u8],
+    ) -> Reply
         requires { Reached self }
         ensures { Reached result.receiver
             × Hears self (lent frame slot kind blocks.now) result message.old message.new }
     {
-        let accepted = report_rules(frame, slot, kind, blocks.len(), message.len());
-        self.reply(accepted, Place { frame, slot }, kind, blocks, message)
+        let answer = self.hear_in_place(frame, slot, kind, blocks, message);
+        Reply {
+            receiver: self,
+            answer,
+        }
     }
 }

@@ -1,21 +1,11 @@
 // The earlier headers for this unit that copies can still come of: the first `count` of seven places of three numbers.
 ghost use Rattle.std.specs.Prelude.{◌≡◌, true, cond, [], ◌≤◌, ◌<◌, length};
-ghost use Rattle.history.specs.Step.{no_near, fits};
+ghost use Rattle.history.specs.Step.{fits};
 ghost use Rattle.reports.specs.Nears.{nears_of, Placed, Put, Copied, Fallen, Kept};
 
 use crate::read::Brought;
 use history::{Near, Nears};
 use store::Raw;
-
-// A place with none.
-fn no_near() -> Near
-    ensures { result ≡ no_near }
-{
-    Near {
-        raw: Raw { high: 0, low: 0 },
-        countdown: 0,
-    }
-}
 
 // None of them.
 pub fn no_nears() -> Nears
@@ -27,11 +17,13 @@ pub fn no_nears() -> Nears
     }
 }
 
-// What is left of them when a report comes, in turn or not.
-pub fn older_nears(turn: bool, near: Nears) -> Nears
-    ensures { result ≡ cond turn near (nears_of []) }
+// Leaves none of them where they are gone.
+pub fn forget(gone: bool, near: &mut Nears)
+    ensures { near.new ≡ cond gone (nears_of []) near.old }
 {
-    if turn { near } else { no_nears() }
+    if gone {
+        *near = no_nears();
+    }
 }
 
 // Place `i`, read and written.
@@ -89,7 +81,7 @@ pub fn fall(over: bool, near: &mut Nears)
     let mut k = 0;
     for i in 0..near.count {
         let n = place(&near.places, i);
-        put(&mut near.places, i, no_near());
+        put(&mut near.places, i, Near::default());
         if n.countdown != 0 {
             put(
                 &mut near.places,

@@ -5,7 +5,6 @@ ghost use Rattle.history.specs.Step.{run_after};
 
 use crate::place::wane;
 use crate::read::{Brought, same_fields};
-use blocks::header::no_fields;
 use history::{Act, Open, Place};
 use store::Raw;
 
@@ -13,16 +12,7 @@ use store::Raw;
 pub fn no_run() -> Open
     ensures { result ≡ no_run }
 {
-    Open {
-        fields: no_fields(),
-        raw: Raw { high: 0, low: 0 },
-        held: 0,
-        again: 0,
-        more: 0,
-        frame: 0,
-        countdown: 0,
-        kept: 0,
-    }
+    Open::default()
 }
 
 // What is left of it when a report comes in slot `q`, in turn or not.
@@ -34,13 +24,8 @@ pub fn older_run(turn: bool, q: Place, a: Open) -> Open
     }
     Open {
         fields: same_fields(a.fields),
-        raw: a.raw,
-        held: a.held,
         again: wane(q, a.again),
-        more: a.more,
-        frame: a.frame,
-        countdown: a.countdown,
-        kept: a.kept,
+        ..a
     }
 }
 

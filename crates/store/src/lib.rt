@@ -10,7 +10,7 @@ ghost use Rattle.store.specs.Store.{store_of, joined_to, first_over, without, sa
 
 // A block of 16 bytes as two numbers: its first 64 bits and the others.
 #[repr(C)]
-#[derive(Clone, Copy, PartialEq, Eq)]
+#[derive(Clone, Copy, PartialEq, Eq, Default)]
 pub struct Raw {
     pub high: u64,
     pub low: u64,

@@ -12,7 +12,7 @@ heard-x-requires c z =
     (passes (lent a.q.frame a.q.slot a.kind a.blocks.now) a.message.now (sym c.requires.refused ∙ z)).1
 
 pub judge-v-requires : goal.judge-v-requires
-judge-v-requires c = count_few c.requires.reached c.in_turn-turn.result c.older_nears-near.ensures
+judge-v-requires c = count_few c.requires.reached c.in_turn-turn.result c.forget.ensures
 
 pub told-answer-requires : goal.told-answer-requires
 told-answer-requires c =
@@ -26,7 +26,7 @@ told-answer-requires c =
       buffer =
           tells_inside a.accepted c.heard-x.ensures c.older_run-run.result (kept_near k t) c.either-tick.result
           c.broken_off-lost.result
-          (judged_kept k t c.older_nears-near.ensures c.heard-x.result c.older_run-run.result c.either-tick.result
+          (judged_kept k t c.forget.ensures c.heard-x.result c.older_run-run.result c.either-tick.result
           c.broken_off-lost.result c.judge-v.ensures)
           (λ z. (passes l a.message.now (sym c.requires.refused ∙ z)).2);
     }
@@ -44,7 +44,7 @@ store_after-requires c =
     }
 
 pub fall-requires : goal.fall-requires
-fall-requires c = count_few c.requires.reached c.in_turn-turn.result c.older_nears-near.ensures
+fall-requires c = count_few c.requires.reached c.in_turn-turn.result c.forget.ensures
 
 pub keep-requires : goal.keep-requires
 keep-requires c =
@@ -54,20 +54,20 @@ keep-requires c =
     let t = c.in_turn-turn.result in
     record {
       room =
-          left_free k t c.older_nears-near.ensures c.ending-over.result c.fall.ensures a.accepted l
+          left_free k t c.forget.ensures c.ending-over.result c.fall.ensures a.accepted l
           c.in_turn-turn.ensures c.ending-over.ensures c.heard-x.ensures c.older_run-run.result c.either-tick.result
           c.broken_off-lost.result c.judge-v.ensures;
-      inside = left_few k t c.older_nears-near.ensures c.ending-over.result c.fall.ensures;
+      inside = left_few k t c.forget.ensures c.ending-over.result c.fall.ensures;
     }
 
-pub run_after-requires : goal.run_after-requires
-run_after-requires c = (
+pub run_after-self-requires : goal.run_after-self-requires
+run_after-self-requires c = (
   c.heard-x.ensures.falls,
   run_small c.requires.reached c.in_turn-turn.result c.either-tick.result c.older_run-run.ensures,
 )
 
-pub bits_after-requires : goal.bits_after-requires
-bits_after-requires c =
+pub bits_after-self-requires : goal.bits_after-self-requires
+bits_after-self-requires c =
     omega (
       arith,
       bits_small c.requires.reached c.in_turn-turn.result c.either-bits.ensures,
@@ -85,7 +85,7 @@ returns c =
       tick = c.either-tick.result;
       lost = c.broken_off-lost.result;
       run = c.older_run-run.result;
-      near = c.older_nears-near.result;
+      near = c.forget.new.near;
       bits = c.either-bits.result;
       store = c.clear.new.store;
       x = c.heard-x.result;
@@ -98,7 +98,7 @@ returns c =
       tick_is = c.either-tick.ensures ∙ rw (ok, c.no_place.ensures) refl;
       lost_is = c.broken_off-lost.ensures;
       run_is = c.older_run-run.ensures;
-      near_is = c.older_nears-near.ensures;
+      near_is = c.forget.ensures;
       bits_is = c.either-bits.ensures;
       store_is = c.clear.ensures;
       brings = c.heard-x.ensures;
@@ -107,11 +107,11 @@ returns c =
       answer_is = c.with_loss.ensures;
       loss_is = c.lost_of-loss.ensures;
       settings_after = refl;
-      place_after = c.either.ensures ∙ rw ok refl;
+      place_after = c.either-self.ensures ∙ rw ok refl;
       over_is = c.ending-over.ensures;
       falls = c.fall.ensures;
       keeps = c.keep.ensures;
-      run_after = c.run_after.ensures;
-      bits_after = c.bits_after.ensures;
+      run_after = c.run_after-self.ensures;
+      bits_after = c.bits_after-self.ensures;
       store_after = c.store_after.ensures;
     })
