@@ -11,7 +11,7 @@ ghost use Rattle.probe_transport.specs.Calls.{read_line, built_text, build_line}
 ghost use Rattle.probe_transport.specs.Calls.{FreshTells, Called, BookTells};
 
 use bookings::Bookings;
-use lines::line::{BEFORE, Told, unknown};
+use lines::line::{Told, line_of_build};
 
 // Reads a message.
 pub fn read(body: &[u8], line: &mut [u8]) -> Option<usize>
@@ -44,15 +44,7 @@ pub fn build(body: &[u8], line: &mut [u8]) -> Option<usize>
     requires { 4096 ≤ length line.old }
     ensures { Says line.old (build_line body.now) line.new result }
 {
-    if body.len() < 35 {
-        return None;
-    }
-    let lent = usize::from(records::two_at(body, 33));
-    if 1024 < lent {
-        return unknown(line);
-    }
-    let mut out = [BEFORE; 1024];
-    Some(built(body, &mut out[..lent], line))
+    line_of_build(body, line, built)
 }
 
 // Makes the bookings fresh ones.
