@@ -21,6 +21,7 @@ pub fn read_full<R: Read>(input: &mut R, run: &mut [u8]) -> usize
     ensures in_bounds { IsPrefixLen result run.new }
     ensures bytes { Consumes (R.remaining input.old) (R.remaining input.new) (take result run.new) }
 {
+    // Kept: no index is counted here; a read says how many bytes to go on by, and std's `read_exact` does not.
     let mut done = 0;
     while done < run.len() {
         match input.read(&mut run[done..]) {
@@ -57,7 +58,7 @@ pub fn take<R: Read>(input: &mut R, body: &mut [u8]) -> Taken
     if got < 4 {
         return Taken::Cut;
     }
-    let length = two_at(body, 0) as usize;
+    let length = usize::from(two_at(body, 0));
     let kind = two_at(body, 2);
     if length < 2 {
         return Taken::Cut;

@@ -13,7 +13,7 @@ use Rattle.blocks.specs.declared.sync.Sync.{Sync}
 use Rattle.blocks.specs.declared.header.Fields.{Fields}
 use Rattle.build.specs.declared.Built.{Built}
 use Rattle.lines.specs.Lines.{unknown_line, Stands, Says}
-use Rattle.lines.specs.declared.line.Line.TheVariants.{Bytes, Short}
+use Rattle.std.specs.Prelude.{Some, None}
 use Rattle.lines.proofs.Outputs.{take_same}
 use Rattle.probe_blocks.specs.Body.{sync_in, countdown_in_record, fields_in, n_in, lent_in}
 use Rattle.probe_blocks.specs.Calls.{written_by, build_text, built_text, build_line}
@@ -27,7 +27,7 @@ written_inside y c g n bytes lent = inside_when (build_fault y c g n bytes lent)
     inside_when zero e = (in_range y c g n bytes lent e).blocks.room
     inside_when (suc f) e = rw (ne_eqb (suc f) 0 (λ z. omega arith)) (omega arith)
 
-pub build_short : (old body : List ℕ) → length body < 35 → Says old (build_line body) old Short
+pub build_short : (old body : List ℕ) → length body < 35 → Says old (build_line body) old None
 unfolding build_line
 build_short old body h = rw (lt-leb 35 (length body) h) refl
 
@@ -38,7 +38,7 @@ module _ (body : List ℕ) (h : 35 ≤ length body) where
 
   pub build_said : (old : List ℕ) {new : List ℕ} {n : ℕ} → lent_in body ≤ 1024
       → Stands old (built_text body (take (lent_in body) (replicate 1024 90))) new n
-      → Says old (build_line body) new (Bytes n)
+      → Says old (build_line body) new (Some n)
   unfolding build_line
   build_said old g w =
       rw (le-leb 35 (length body) h, le-leb (lent_in body) 1024 g) (rw (take_same (lent_in body) 1024 90 g) at w)

@@ -11,7 +11,7 @@ use Rattle.transport.specs.Building.{bits_for, build_checks, build_fault, built_
 use Rattle.transport.specs.declared.Message.{Message}
 use Rattle.transport.specs.declared.Sdu.{Sdu}
 use Rattle.lines.specs.Lines.{unknown_line, Stands, Says}
-use Rattle.lines.specs.declared.line.Line.TheVariants.{Bytes, Short}
+use Rattle.std.specs.Prelude.{Some, None}
 use Rattle.lines.proofs.Outputs.{take_same}
 use Rattle.probe_transport.specs.Body.{carrier_in, flag_in, message_in, user_bits_in, output_in}
 use Rattle.probe_transport.specs.Calls.{written_by, sdu_text, built_text, build_line}
@@ -39,7 +39,7 @@ written_inside c f m n bytes lent = inside_when (build_fault c f m n bytes lent)
     inside_when zero e = bytes_inside (bits_for c f m n) lent (built_inside c f m n bytes lent e)
     inside_when (suc x) e = omega arith
 
-pub build_short : (old body : List ℕ) → length body < 35 → Says old (build_line body) old Short
+pub build_short : (old body : List ℕ) → length body < 35 → Says old (build_line body) old None
 unfolding build_line
 build_short old body h = rw (lt-leb 35 (length body) h) refl
 
@@ -50,7 +50,7 @@ module _ (body : List ℕ) (h : 35 ≤ length body) where
 
   pub build_said : (old : List ℕ) {new : List ℕ} {n : ℕ} → output_in body ≤ 1024
       → Stands old (built_text body (take (output_in body) (replicate 1024 90))) new n
-      → Says old (build_line body) new (Bytes n)
+      → Says old (build_line body) new (Some n)
   unfolding build_line
   build_said old g w =
       rw (le-leb 35 (length body) h, le-leb (output_in body) 1024 g) (rw (take_same (output_in body) 1024 90 g) at w)

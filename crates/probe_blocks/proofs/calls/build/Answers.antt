@@ -1,3 +1,4 @@
+use mathlib.Core.Path.{◌∙◌}
 use native.Mathlib.Omega.{arith}
 use lib.ListN.{length-take, length-replicate}
 use Rattle.probe_blocks.proofs.Builds.{build_short, build_kind, build_said}
@@ -9,7 +10,7 @@ returns-then-body-lt35 c = let a = c.args in build_short a.line.now a.body.now (
 pub returns-then-lent-gt1024 : goal.returns-then-lent-gt1024
 returns-then-lent-gt1024 c =
     let a = c.args in
-    let t = c.two_at-lent.ensures in
+    let t = c.from-lent.ensures ∙ c.two_at.ensures in
     rw (build_kind a.body.now (omega arith) (omega arith)) c.unknown.ensures
 
 pub slice_bounds-built-end : goal.slice_bounds-built-end
@@ -26,6 +27,6 @@ built-requires c = (
 pub returns : goal.returns
 returns c =
     let a = c.args in
-    let t = c.two_at-lent.ensures in
+    let t = c.from-lent.ensures ∙ c.two_at.ensures in
     build_said a.body.now (omega arith) a.line.now (omega arith)
     (rw t at c.built.ensures)
