@@ -5,10 +5,11 @@ use mathlib.Core.List.{List, [], ◌∷◌, ◌++◌, append_assoc, append-nil}
 use Prim.Native.Nat.{ℕ, zero, suc, ◌+◌, ◌-◌, ◌*◌, ◌/◌, ◌%◌, ◌^◌, ◌≤◌, ◌<◌}
 use native.Mathlib.Omega.{arith}
 use lib.ListN.{length, take, drop, get_or, length-append, length-take, length-drop, take-append-drop}
-use lib.Bits.{bit_or, or_shifted_r}
-use lib.Seq.{length-slice, take-nil, drop-nil, slice, slice-cons, slice_empty, drop-drop, take-append-add}
+use lib.Bits.{bit_or, or_shifted}
+use lib.Seq.{length-slice, length-take-le, take-nil, drop-nil, slice, slice-cons, slice_empty, drop-drop, take-append-add}
 use lib.Seq.{drop-append-add, take_at, drop_at}
 use lib.Pow.{shl_exact}
+use Rattle.std.proofs.lemmas.List.{take_more}
 use Rattle.bits.specs.Bits.{num, bits_n, bits_of, bytes_n, AllBytes}
 use Rattle.bits.proofs.Numbers.{length_bits_n, num_append, num_lt, num_bits_n, bits_n_is, num_take_lt, num_field}
 use Rattle.bits.proofs.Numbers.{take_of_drop, drop_of_take, num_shr}
@@ -107,25 +108,24 @@ bytes_drop (suc n) (x ∷ xs) h = bytes_drop n xs h.1
 pub length_bits_of_slice : (f t : ℕ) (s : List ℕ) → t ≤ length s → length (bits_of (slice f t s)) ≡ 8 * (t - f)
 length_bits_of_slice f t s h = length_bits_of (slice f t s) ∙ ap (λ (n : ℕ). 8 * n) (length-slice f t s h)
 
--- a turn of the loop that loads: one byte more, before those that were loaded
-pub load_step : (s : List ℕ) (j t acc b low : ℕ) → j < t → t ≤ length s → t ≤ j + 8 → get_or s j 0 < 256
-    → low ≡ 8 * (t - suc j)
-    → acc ≡ num (bits_of (slice (suc j) t s)) → b ≡ get_or s j 0
-    → bit_or acc (b * 2 ^ low % 2 ^ 64) ≡ num (bits_of (slice j t s))
-unfolding bits_of
-load_step s j t acc b low h k l lt el e eb =
-    let m = bits_of (slice (suc j) t s) in
-    let n : length m ≡ low = length_bits_of_slice (suc j) t s k ∙ sym el in
-    let small : acc < 2 ^ low = rw (e, ← n) (num_lt m) in
+-- a turn of the loop that loads: one byte more, after those that were loaded
+pub load_more : (s : List ℕ) (i acc : ℕ) → i < length s → length s ≤ 8 → get_or s i 0 < 256
+    → acc ≡ num (bits_of (take i s))
+    → bit_or (acc * 2 ^ 8 % 2 ^ 64) (get_or s i 0) ≡ num (bits_of (take (i + 1) s))
+load_more s i acc h k lt e =
+    let m = bits_of (take i s) in
+    let n : length m ≡ 8 * i = length_bits_of (take i s) ∙ ap (λ (x : ℕ). 8 * x) (length-take-le i s (omega arith)) in
+    let small : acc < 2 ^ (8 * i) = rw (e, ← n) (num_lt m) in
     rw (
-      shl_exact {a = b} 8 low 64 (omega arith) (omega arith),
-      or_shifted_r b low acc small,
-      slice-cons j t s 0 h k,
-      num_append (bits_n 8 (get_or s j 0)) m,
-      num_bits_n 8 (get_or s j 0) lt,
-      n,
+      shl_exact {a = acc} (8 * i) 8 64 small (omega arith),
+      or_shifted acc 8 (get_or s i 0) lt,
+      take_more s i 0 h,
+      bits_of_append (take i s) (get_or s i 0 ∷ []),
+      bits_of_one (get_or s i 0),
+      num_append m (bits_n 8 (get_or s i 0)),
+      length_bits_n 8 (get_or s i 0),
+      num_bits_n 8 (get_or s i 0) lt,
       e,
-      eb,
     ) refl
 
 -- one byte as a number

@@ -9,15 +9,15 @@ use lib.ListN.{length, get_or}
 use lib.Seq.{slice, slice_empty}
 use Rattle.bits.specs.Bits.{bits_of, Inside}
 use Rattle.bits.specs.Fill.{strip, found_at}
-use Rattle.bits.specs.declared.Found.{Found}
-use Rattle.bits.specs.declared.Found.TheVariants.{At}
+use Rattle.std.specs.Prelude.{Option}
+use Rattle.std.proofs.Common.{rules}
 use Rattle.bits.proofs.Bytes.{length_bits_of}
 use Rattle.bits.proofs.Searching.{Turn, turn, Within, last_within}
 use Rattle.bits.proofs.+last_one.Goals as goal
-use Rattle.bits.proofs.+last_one.Goals.{In-At, In-loop-i}
+use Rattle.bits.proofs.+last_one.Goals.{In-loop-i}
 
 -- what the room from the byte's first bit on says of the room from bit `from` on
-own : (s : List ℕ) (from to : ℕ) (r : Found) → Inside (length s) from to
+own : (s : List ℕ) (from to : ℕ) (r : Option ℕ) → Inside (length s) from to
     → r ≡ found_at (from - bit_and from 7) (strip (slice (from - bit_and from 7) to (bits_of s)))
     → Within from r (found_at from (strip (slice from to (bits_of s))))
 own s from to r i e =
@@ -32,27 +32,21 @@ pub last_one-requires : goal.last_one-requires
 last_one-requires t c =
     let m = c.requires in omega (arith, and_mask c.args.from 3)
 
-pub returns-in_default : goal.returns-in_default
-returns-in_default t c =
-    let r = c.last_one in
-    rw c.in_default.is
-    at (own c.args.s.now c.args.from c.args.to r.result c.requires r.ensures)
-
--- where it has found a 1
-found : (t : ℕ) (c : In-At t)
-    → (let a = c.args in
-    Within a.from (At c.in-At.at)
-    (found_at a.from (strip (slice a.from a.to (bits_of a.s.now)))))
-found t c =
-    let r = c.last_one in
-    rw c.in-At.is
-    at (own c.args.s.now c.args.from c.args.to r.result c.requires r.ensures)
+pub returns-in_err-at : goal.returns-in_err-at
+returns-in_err-at t c =
+    let w = own c.args.s.now c.args.from c.args.to c.last_one.result c.requires c.last_one.ensures in
+    let e = rw c.in_err-at.was at w in
+    search (rules, e)
 
 pub returns-then-at-from : goal.returns-then-at-from
-returns-then-at-from t c = (found t (goal.at.returns-then-at-from t c).In-At).0 (omega arith)
+returns-then-at-from t c =
+    let w = own c.args.s.now c.args.from c.args.to c.last_one.result c.requires c.last_one.ensures in
+    (rw c.in_ok-at.was at w).0 (omega arith)
 
 pub returns-then-before-ne0 : goal.returns-then-before-ne0
-returns-then-before-ne0 t c = (found t (goal.at.returns-then-before-ne0 t c).In-At).1 (omega arith)
+returns-then-before-ne0 t c =
+    let w = own c.args.s.now c.args.from c.args.to c.last_one.result c.requires c.last_one.ensures in
+    (rw c.in_ok-at.was at w).1 (omega arith)
 
 pub loop-i-init : goal.loop-i-init
 unfolding strip

@@ -12,6 +12,3 @@ decreases-last_one l = l.from
 abbrev pub invariant-loop-i : goal.invariant-loop-i
 invariant-loop-i l =
     (l.first ≤ l.i) × (8 * l.i ≤ l.to + 7) × (l.after ≡ 8 * l.i - l.to) × (strip (slice (8 * l.i - l.after) l.to (bits_of l.s)) ≡ none)
-
-abbrev pub decreases-loop-i : goal.decreases-loop-i
-decreases-loop-i l = l.i

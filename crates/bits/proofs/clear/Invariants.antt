@@ -9,6 +9,3 @@ abbrev pub invariant-loop-i : goal.invariant-loop-i
 invariant-loop-i l =
     (l.from ≤ l.i) × (l.i ≤ l.to) × (length l.out ≡ length l.initial.out)
     × (bits_of l.out ≡ over l.from (replicate (l.i - l.from) false) (bits_of l.initial.out))
-
-abbrev pub decreases-loop-i : goal.decreases-loop-i
-decreases-loop-i l = l.to - l.i

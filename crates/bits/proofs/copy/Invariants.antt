@@ -1,5 +1,5 @@
 use mathlib.Core.Path.{◌≡◌}
-use Prim.Native.Nat.{◌-◌, ◌≤◌}
+use Prim.Native.Nat.{◌≤◌}
 use lib.ListN.{length, take, drop}
 use Rattle.bits.specs.Bits.{bits_of, over}
 use Rattle.bits.proofs.copy.Given as goal
@@ -7,6 +7,3 @@ use Rattle.bits.proofs.copy.Given as goal
 abbrev pub invariant-loop-i : goal.invariant-loop-i
 invariant-loop-i l =
     (l.i ≤ l.n) × (length l.dst ≡ length l.initial.dst) × (bits_of l.dst ≡ over l.to (take l.i (drop l.from (bits_of l.src))) (bits_of l.initial.dst))
-
-abbrev pub decreases-loop-i : goal.decreases-loop-i
-decreases-loop-i l = l.n - l.i
