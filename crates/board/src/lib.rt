@@ -52,9 +52,7 @@ pub extern "C" fn pierstrand_hear(
         × Hears r.old (lent frame slot kind blocks.now) (replied r.new result)
         message.old message.new }
 {
-    let h = r.hear(frame, slot, kind, blocks, message);
-    *r = h.receiver;
-    h.answer
+    r.hear_in_place(frame, slot, kind, blocks, message)
 }
 
 // Builds the blocks of the first `n` bits of a message: `build::build`.
