@@ -18,7 +18,8 @@ use Rattle.receiver.specs.Reached.{receiver_at, Leads}
 use Rattle.receiver.specs.declared.Receiver.{Receiver}
 use Rattle.receiver.specs.declared.Fresh.{Fresh}
 use Rattle.receiver.proofs.HearLaws.{fresh_leads}
-use Rattle.slotlog.specs.Log.{settings_at, is_first, is_unit, first_bytes, Beginning, begun_as, begun_by, begun, entries}
+use Rattle.slotlog.specs.Log.{settings_at, is_first, is_unit, first_bytes, entries}
+use Rattle.slotlog.specs.Log.{Beginning, begun_as, begun_by, begun}
 use Rattle.slotlog.specs.declared.log.Begun.{Begun}
 use Rattle.slotlog.specs.declared.run.Run.{Run}
 use Rattle.slotlog.specs.declared.run.State.{State}
@@ -119,7 +120,8 @@ run_then f n u c =
       goes = goes_both f.said w.said f.goes n w.goes;
     }
 
-ran_then : {input left text : List ℕ} {r : Receiver} {state : State} → Printed input left text r state → (state ≡ Cut → ⊥)
+ran_then : {input left text : List ℕ} {r : Receiver} {state : State} → Printed input left text r state
+    → (state ≡ Cut → ⊥)
     → {old new : List ℕ} {x : Run} → Ran r left old x new
     → Printed input (drop x.read left) (text ++ take x.written new) x.receiver x.state
 ran_then {left = left} f e {old} {new} g =
@@ -197,7 +199,8 @@ printed_end {input} {left} {text} p =
     ∙ ap (λ (l : List ℕ). text ++ l) (end_line_lem (eqb (length left) 0))
 
 -- The first bytes, or fewer where the log is shorter, that give no receiver: `unit` is all that is printed.
-pub printed_unit : (w z : List ℕ) → ((begun_by w).fault ≡ 0 → ⊥) → first_bytes w ≤ length w → printed (w ++ z) ≡ unit_line
+pub printed_unit : (w z : List ℕ) → ((begun_by w).fault ≡ 0 → ⊥) → first_bytes w ≤ length w
+    → printed (w ++ z) ≡ unit_line
 printed_unit w z n h = rw ((unit_same w z h).0 ∙ no_unit w n) refl
 
 pub printed_short : (w : List ℕ) → ((begun_by w).fault ≡ 0 → ⊥) → printed w ≡ unit_line

@@ -1,6 +1,7 @@
 -- The records of a slot log (document 01, 'The slot log and its printer'). A record is two bytes length of what
 -- follows, two bytes kind, body; numbers have their lowest byte first.
-use Rattle.std.specs.Prelude.{Bool, cond, ◌&&◌, List, [], ◌∷◌, ℕ, zero, suc, ◌+◌, ◌-◌, eqb, leb, ltb, length, take, drop, get_or}
+use Rattle.std.specs.Prelude.{Bool, cond, ◌&&◌, List, [], ◌∷◌, ℕ, zero, suc, ◌+◌, ◌-◌, eqb, leb, ltb}
+use Rattle.std.specs.Prelude.{length, take, drop, get_or}
 use Rattle.std.specs.Prelude.{Option, Some, None, Result, Ok, Err}
 use Rattle.blocks.specs.declared.fault.Fault.{Fault}
 use Rattle.blocks.specs.declared.fault.Fault.TheVariants.{Range}

@@ -73,7 +73,7 @@ pub(crate) enum Next {
     Report(usize),
 }
 
-// A whole record of this kind with `n` bytes of body.
+// A whole record of the kind with this number, with `n` bytes of body.
 fn whole(number: u16, n: usize) -> Next
     requires { n ≤ 65535 }
     ensures { result ≡ whole_of number n }
@@ -136,6 +136,7 @@ fn first_bytes(log: &[u8]) -> usize
 fn begin(log: &[u8]) -> Result<Begun, Fault>
     ensures begun { result ≡ begun (begun_by log.now) }
     ensures reached { IfOk result (λ b. Reached b.receiver) }
+    ensures took { IfOk result (λ b. b.took ≤ length log.now) }
 {
     if !is_first(log) {
         return Err(Fault::Range);
