@@ -4,8 +4,7 @@ use Prim.Native.Nat.{ℕ, ◌+◌, ◌-◌, ◌*◌, ◌/◌, ◌%◌, ◌^◌}
 use native.Mathlib.Nat.{sub-zero}
 use native.Mathlib.Omega.{arith}
 use lib.Bits.{bit_and, and_mask}
-use lib.Count.{trailing_le}
-use lib.ListN.{length, get_or}
+use lib.ListN.{length}
 use lib.Seq.{slice, slice_empty}
 use Rattle.bits.specs.Bits.{bits_of, Inside}
 use Rattle.bits.specs.Fill.{strip, found_at}
@@ -24,13 +23,6 @@ own s from to r i e =
     rw e
     (last_within (bits_of s) (from - bit_and from 7) from to (omega (arith, and_mask from 3)) (omega arith)
     (omega (arith, length_bits_of s)))
-
-pub overflow_sub-from : goal.overflow_sub-from
-overflow_sub-from t c = omega (arith, and_mask c.args.from 3)
-
-pub last_one-requires : goal.last_one-requires
-last_one-requires t c =
-    let m = c.requires in omega (arith, and_mask c.args.from 3)
 
 pub returns-in_err-at : goal.returns-in_err-at
 returns-in_err-at t c =
@@ -54,12 +46,6 @@ loop-i-init t c =
     let a = c.args in
     let e : 8 * ((a.to + 7) / 8) - ((a.to + 7) / 8 * 8 % 2 ^ 64 - a.to) ≡ a.to = omega arith in
     (omega arith, omega arith, rw (e, slice_empty a.to (bits_of a.s.now)) refl)
-
-pub overflow_cast-result : goal.overflow_cast-result
-overflow_cast-result t c =
-    let l = c.loop-i in
-    let a = c.args in
-    omega (arith, trailing_le 8 (get_or a.s.now (l.i - 1) 0 / 2 ^ l.after))
 
 -- a turn of the loop
 turned : (t : ℕ) (c : In-loop-i t)

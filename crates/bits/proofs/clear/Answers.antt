@@ -1,7 +1,6 @@
 use mathlib.Core.Path.{◌≡◌, sym, ◌∙◌}
 use native.Mathlib.Nat.{sub_self}
 use native.Mathlib.Omega.{arith}
-use lib.Pow.{pow_pos}
 use Rattle.bits.specs.Bits.{bits_of, over}
 use lib.ListN.{replicate}
 use mathlib.Core.Bool.{false}
@@ -14,9 +13,6 @@ use Rattle.bits.proofs.clear.Goals.{After-put}
 
 pub loop-i-init : goal.loop-i-init
 loop-i-init c = (omega arith, rw (sub_self c.args.from) (sym (over_nil _ _)))
-
-pub put-requires : goal.put-requires
-put-requires c = (omega arith, omega arith, pow_pos _)
 
 -- what a turn leaves
 turned : (c : After-put) → bits_of c.put.new.out
@@ -32,11 +28,6 @@ pub loop-i-preserved : goal.loop-i-preserved
 loop-i-preserved c =
     let w : c.min-w.result ≡ 56 = omega arith in
     (omega arith, rw w at (turned (goal.at.loop-i-preserved c).After-put))
-
-pub returns : goal.returns
-returns c =
-    let e : c.loop-i.i ≡ c.args.to = omega arith in
-    rw e at c.loop-i.invariant.1
 
 pub returns-2 : goal.returns-2
 returns-2 c =

@@ -1,6 +1,5 @@
 use mathlib.Core.Path.{◌≡◌, sym, ◌∙◌}
 use native.Mathlib.Omega.{arith}
-use borrow.Author.Rules.{rules}
 use Rattle.bits.specs.Bits.{bits_of, over}
 use lib.ListN.{take, drop}
 use Prim.Native.Nat.{◌+◌}
@@ -11,9 +10,6 @@ use Rattle.bits.proofs.copy.Goals.{After-put}
 
 pub loop-i-init : goal.loop-i-init
 loop-i-init c = (omega arith, sym (over_nil _ _))
-
-pub put-requires : goal.put-requires
-put-requires c = (search rules, search rules, c.field.ensures.small)
 
 -- what a turn leaves
 turned : (c : After-put) → bits_of c.put.new.out
@@ -31,11 +27,6 @@ pub loop-i-preserved : goal.loop-i-preserved
 loop-i-preserved c =
     let w : c.min-w.result ≡ 56 = omega arith in
     (omega arith, rw w at (turned (goal.at.loop-i-preserved c).After-put))
-
-pub returns : goal.returns
-returns c =
-    let e : c.loop-i.i ≡ c.args.n = omega arith in
-    rw e at c.loop-i.invariant.1
 
 pub returns-2 : goal.returns-2
 returns-2 c =
