@@ -53,7 +53,7 @@ unfolding strip
 loop-i-init t c =
     let a = c.args in
     let e : 8 * ((a.to + 7) / 8) - ((a.to + 7) / 8 * 8 % 2 ^ 64 - a.to) ≡ a.to = omega arith in
-    (omega arith, omega arith, omega arith, rw (e, slice_empty a.to (bits_of a.s.now)) refl)
+    (omega arith, omega arith, rw (e, slice_empty a.to (bits_of a.s.now)) refl)
 
 pub overflow_cast-result : goal.overflow_cast-result
 overflow_cast-result t c =
@@ -71,7 +71,7 @@ turned t c =
     let l = c.loop-i in
     let m = and_mask a.from 3 in
     turn a.s.now a.from a.to l.i (l.i - 1) l.after (omega arith) (omega arith) (omega arith)
-    (omega arith) l.invariant.2 (omega (arith, c.type_inv.s (l.i - 1))) l.invariant.3
+    (omega arith) l.invariant.1 (omega (arith, c.type_inv.s (l.i - 1))) l.invariant.2
 
 pub overflow_sub-result-then-byte-ne0 : goal.overflow_sub-result-then-byte-ne0
 overflow_sub-result-then-byte-ne0 t c =
@@ -87,7 +87,7 @@ pub loop-i-preserved : goal.loop-i-preserved
 loop-i-preserved t c =
     let i = c.loop-i.i in
     let z = (turned t (goal.at.loop-i-preserved t c).In-loop-i).more (omega arith) in
-    (omega arith, omega arith, omega arith, rw (sub-zero (8 * (i - 1))) z)
+    (omega arith, omega arith, rw (sub-zero (8 * (i - 1))) z)
 
 pub returns : goal.returns
 unfolding found_at
@@ -96,4 +96,4 @@ returns t c =
     let l = c.loop-i in
     let m = and_mask a.from 3 in
     let e : 8 * l.i - l.after ≡ a.from = omega arith in
-    rw (rw e at l.invariant.3) refl
+    rw (rw e at l.invariant.2) refl
