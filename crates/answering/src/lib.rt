@@ -82,6 +82,7 @@ pub enum What {
 // F in it, what it was, and its slot count. Of the response: in how many frames its header goes out, the unit's DN210
 // (A.4), and, 0 for no, else yes, whether it starts a frame later, whether slot 1 of its first frame is used, whether
 // it is fragmented.
+// Kept: numbers for kinds and flags, as the C interface has them; so in `Slot` and `Calendar`.
 #[repr(C)]
 #[derive(Clone, Copy)]
 pub struct Response {
@@ -179,7 +180,8 @@ fn has_end(r: Response, answered: Answered) -> bool
 
 // The header in slot `i`, from 0, of the `m` frames from frame `k` on.
 fn header_at(x: u8, k: u8, m: u8, i: u8) -> Slot
-    requires { (i < 2 * m) × (k + m ≤ 255) }
+    requires slot { i < 2 * m }
+    requires soon { k + m ≤ 255 }
     ensures { result ≡ header_at x (k + i / 2) (1 + 2 * (i % 2)) (m - 1 - i / 2) }
 {
     let from = k + i / 2;
@@ -218,18 +220,14 @@ fn slots_from(x: u8, k: u8, m: u8, over: u8, told: bool) -> Calendar
     for i in over..2 * m {
         slots[usize::from(i - over)] = header_at(x, k, m, i);
     }
-    let count = 2 * m - over;
-    if !told {
-        return Calendar {
-            fault: 0,
-            count,
-            slots,
-        };
+    let mut count = 2 * m - over;
+    if told {
+        slots[usize::from(count)] = end_after(x, k + m - 1);
+        count += 1;
     }
-    slots[usize::from(count)] = end_after(x, k + m - 1);
     Calendar {
         fault: 0,
-        count: count + 1,
+        count,
         slots,
     }
 }

@@ -20,6 +20,7 @@ mod plan;
 use plan::{Plan, planned};
 
 // What a build answers: its fault, or the number of continuation blocks.
+// Kept: a fault beside a count, as the C interface has it.
 #[repr(C)]
 #[derive(Clone, Copy)]
 pub struct Built {
@@ -50,6 +51,7 @@ fn told(count: usize, room: usize) -> u64
 }
 
 // The widths of a continuation block's elements, in order.
+// Kept: `as` in this table and the others, since a constant calls no function.
 const CONTINUATION: [u8; 3] = [
     Width::PDU_TYPE as u8,
     1, // subtype
@@ -116,7 +118,8 @@ const SYNC: [u8; 10] = [
 
 // SCH/S, from bit 0 on.
 fn put_sync(sync: Sync, out: &mut [u8])
-    requires { AllFit (sync_parts sync) × (8 ≤ length out.old) }
+    requires fits { AllFit (sync_parts sync) }
+    requires room { 8 ≤ length out.old }
     ensures { bits_of out.new ≡ over 0 (pack (sync_parts sync)) (bits_of out.old) }
 {
     let values: [u64; 10] = [

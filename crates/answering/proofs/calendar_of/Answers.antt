@@ -7,6 +7,9 @@ use Rattle.answering.specs.Calendar.{no_slot}
 use Rattle.answering.proofs.FrameLaws.{fits, granted, refused, first_soon}
 use Rattle.answering.proofs.calendar_of.Goals as goal
 
+pub first_frame-requires-clause-fits : goal.first_frame-requires-clause-fits
+first_frame-requires-clause-fits c = fits c.args.r (sym c.in-Ok.ensures.fault)
+
 pub slots_from-requires-clause-soon : goal.slots_from-requires-clause-soon
 slots_from-requires-clause-soon c =
     let r = c.args.r in

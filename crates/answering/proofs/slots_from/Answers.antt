@@ -15,21 +15,21 @@ loop-i-preserved c =
       omega arith,
     )
 
-pub returns-then-not-told : goal.returns-then-not-told
-returns-then-not-told c =
-    let l = c.loop-i in
-    let a = c.args in
-    let p = c.requires in
-    let e : l.i ≡ 2 * a.m = omega arith in
-    rw (l.invariant.0, e, c.if-not-told.true)
-    (without_end a.x a.k a.m a.over p.frames.0 p.frames.1 p.over)
-
-pub returns : goal.returns
-returns c =
+pub returns-then-told : goal.returns-then-told
+returns-then-told c =
     let l = c.loop-i in
     let a = c.args in
     let p = c.requires in
     let e : l.i ≡ 2 * a.m = omega arith in
     let n : suc (a.k + a.m - 1) ≡ a.k + a.m = omega (arith, p) in
-    rw (c.from-2.ensures, c.end_after.ensures, n, l.invariant.0, e, c.if-not-told.false)
+    rw (c.from-then-told.ensures, c.end_after.ensures, n, l.invariant.0, e, c.if-told.true)
     (with_end a.x a.k a.m a.over p.frames.0 p.frames.1 p.over)
+
+pub returns-else-told : goal.returns-else-told
+returns-else-told c =
+    let l = c.loop-i in
+    let a = c.args in
+    let p = c.requires in
+    let e : l.i ≡ 2 * a.m = omega arith in
+    rw (l.invariant.0, e, c.if-told.false)
+    (without_end a.x a.k a.m a.over p.frames.0 p.frames.1 p.over)

@@ -41,7 +41,7 @@ laid c =
 pub put_sync-requires : goal.put_sync-requires
 put_sync-requires c =
     let k = passed (goal.at.put_sync-requires c).In_ok-plan in
-    (sync_fits k, omega (arith, k.blocks.room))
+    record { fits = sync_fits k; room = omega (arith, k.blocks.room) }
 
 pub put_header-requires : goal.put_header-requires
 put_header-requires c =
