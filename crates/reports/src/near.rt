@@ -17,11 +17,13 @@ pub fn no_nears() -> Nears
     }
 }
 
-// What is left of them when a report comes, in turn or not.
-pub fn older_nears(turn: bool, near: Nears) -> Nears
-    ensures { result ≡ cond turn near (nears_of []) }
+// Leaves none of them where they are gone.
+pub fn forget(gone: bool, near: &mut Nears)
+    ensures { near.new ≡ cond gone (nears_of []) near.old }
 {
-    if turn { near } else { no_nears() }
+    if gone {
+        *near = no_nears();
+    }
 }
 
 // Place `i`, read and written.
