@@ -40,7 +40,8 @@ Says hs r kept = Keeps hs r
 Says hs r copy = Copies hs r
 
 module _ (hs : History) (q : Place) where
-  says_hands : (g : Fields) (m : List Bool) {x : Heard} {o : code.Outcome} {near : Bool} → Hands (rest_at hs q).near x o near
+  says_hands : (g : Fields) (m : List Bool) {x : Heard} {o : code.Outcome} {near : Bool}
+      → Hands (rest_at hs q).near x o near
       → Says hs (report q x) (outcome_of o (header_in x).fields (bits_in x) g m)
   says_hands g m (no_hand w) = tt
   says_hands g m (hand {h} {f} true w e) =

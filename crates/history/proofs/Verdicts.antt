@@ -50,7 +50,8 @@ pub data Hands (ns : List Near) : Heard → code.Outcome → Bool → Type 0 whe
 pub data Comes (a : Open) (n : List Near) (q : Place) (lost : Bool) : Heard → Verdict → Type 0 where
   passing : {x : Heard} {o : code.Outcome} {near : Bool} → NotFragmented x → is_due a q ≡ false → Hands n x o near
       → Comes a n q lost x (verdict o lost Stays near)
-  missing : {x : Heard} {o : code.Outcome} {near : Bool} → NotFragmented x → is_due a q ≡ true → unfit (is_last a) x ≡ true
+  missing : {x : Heard} {o : code.Outcome} {near : Bool} → NotFragmented x → is_due a q ≡ true
+      → unfit (is_last a) x ≡ true
       → Hands n x o near → Comes a n q lost x (verdict o true Ends near)
   keeping : (b : List Bool) → is_due a q ≡ true → is_last a ≡ false
       → Comes a n q lost (frag b) (verdict Kept lost Takes false)

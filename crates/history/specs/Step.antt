@@ -187,7 +187,8 @@ on_end due last lost = cond due (cond last (verdict Joined lost Ends false) miss
 -- it, but where the header is the open run's own.
 abbrev pub on_fragmented : Bool → Bool → Bool → Bool → Verdict
 on_fragmented meant held renewed lost =
-    let mark = cond held (not renewed) lost in cond meant (verdict Opened mark Opens false) (verdict Quiet mark Ends false)
+    let mark = cond held (not renewed) lost in
+    cond meant (verdict Opened mark Opens false) (verdict Quiet mark Ends false)
 
 -- To an open assembly an unfragmented header is as if nothing was heard. One that is a copy fits whatever the earlier
 -- one fits, which is there already.

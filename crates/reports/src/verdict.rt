@@ -100,8 +100,8 @@ fn on_unfragmented(due: bool, meant: bool, copied: bool, lost: bool) -> Verdict
     verdict(Outcome::Single, p.dropped, p.act, true)
 }
 
-// By what the report in slot `q` brings, over what is left of the open run and of the earlier headers: by questions, and
-// no `match` (docs/DECISIONS.md, 91).
+// By what the report in slot `q` brings, over what is left of the open run and of the earlier headers.
+// Kept: questions by `==`, and no `match`, which would copy the record (docs/DECISIONS.md, 91).
 pub fn judge(x: Brought, a: Open, near: &Nears, q: Place, lost: bool) -> Verdict
     requires { near.now.count ≤ 7 }
     ensures { Judged x a near.now.places near.now.count q lost result }

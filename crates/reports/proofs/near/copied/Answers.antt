@@ -25,8 +25,3 @@ loop-i-preserved c ps e =
     ∙ sym c.fits.ensures ∙ c.if-fits.false in
     let i = c.loop-i.i in
     rw (add-one i) (not_here ps i (omega arith) a.raw a.countdown (c.loop-i.invariant ps e) y)
-
-pub returns : goal.returns
-returns c ps e =
-    let z : c.loop-i.i ≡ c.args.near.now.count = omega arith in
-    sym (rw z at (c.loop-i.invariant ps e))

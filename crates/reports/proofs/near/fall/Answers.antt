@@ -1,4 +1,4 @@
-use mathlib.Core.Path.{◌≡◌, refl, sym, ◌∙◌, ap}
+use mathlib.Core.Path.{◌≡◌, sym, ◌∙◌, ap}
 use Prim.Native.Nat.{◌≤◌}
 use native.Mathlib.Omega.{arith}
 use native.Mathlib.Numerals.{add-one}
@@ -17,9 +17,6 @@ returns-then-not-over c ps e =
     let l : a.near.now.count ≤ length ps = omega (arith, seven ps e w) in
     let r = e ∙ ap flat (sym (still_rows ps a.near.now.count l)) in
     rw (c.if-not-over.true) (still_count ps a.near.now.count l, r)
-
-pub loop-i-init : goal.loop-i-init
-loop-i-init c = (omega arith, refl, λ ps e. record { count = refl; rows = e })
 
 pub loop-i-preserved : goal.loop-i-preserved
 loop-i-preserved c =
