@@ -1,7 +1,8 @@
 // The store of an assembly, 512 bytes: what goes into it and out of it; and SCH/H but for its countdown, as two
 // numbers.
 // Kept: a run of bits is three arguments, `s`, `from` and `n`, as `bits::copy` takes them. What a report brings has the
-// two numbers already, beside bytes that are lent apart, so a struct of the three would be made at each call, no plainer.
+// two numbers already, and its bytes are lent apart: a struct of the three would be made at each call, which is no
+// plainer.
 #![tactic(auto)]
 
 ghost use Rattle.std.specs.Prelude.{◌≡◌, [], ◌+◌, ◌≤◌, length, take, drop};
