@@ -14,6 +14,7 @@ fn built(body: &[u8], out: &mut [u8], line: &mut [u8]) -> usize
 {
     let sync = body::sync(body);
     let fields = body::fields(body);
+    // Kept: `as`, since a `usize` is no `From` of a `u32`.
     let n = records::four(body, 29) as usize;
     let b = build::build(sync, body[4], fields, n, &body[35..], out);
     print::build(line, b, out)

@@ -22,6 +22,7 @@ pub fn read(body: &[u8], line: &mut [u8]) -> Option<usize>
         return None;
     }
     let fields = body::fields(0, body);
+    // Kept: `as`, since a `usize` is no `From` of a `u32`.
     let n = records::four(body, 9) as usize;
     let t = transport::read(fields, n, &body[13..]);
     Some(print::read(line, t))
@@ -34,6 +35,7 @@ fn built(body: &[u8], out: &mut [u8], line: &mut [u8]) -> usize
         line.new result }
 {
     let message = body::message(body);
+    // Kept: `as`, since a `usize` is no `From` of a `u32`.
     let n = records::four(body, 29) as usize;
     let b = transport::build(body[0], body[1], message, n, &body[35..], out);
     print::sdu(line, b, out)
@@ -66,6 +68,7 @@ fn booked(before: Bookings, source: u32, body: &[u8], line: &mut [u8]) -> Told<B
         × Called before source body.now line.old line.new result }
 {
     let fields = body::fields(source, body);
+    // Kept: `as`, since a `usize` is no `From` of a `u32`.
     let n = records::four(body, 9) as usize;
     let reply = before.book(fields, n, &body[13..]);
     let after = reply.bookings;
