@@ -94,8 +94,8 @@ pub fn without_two(h: &[u8], at: usize) -> Raw
     requires { (length h.now ≡ 16) × (6 ≤ at) × (at ≤ 56) }
     ensures { result ≡ without at h.now }
 {
-    let high = (bits::get(h, 0, at) << (64 - at)) | bits::get(h, at + 2, 62 - at);
-    let low = (bits::get(h, 64, 32) << 32) | bits::get(h, 96, 32);
+    let high = (bits::get::<u64>(h, 0, at) << (64 - at)) | bits::get::<u64>(h, at + 2, 62 - at);
+    let low = (bits::get::<u64>(h, 64, 32) << 32) | bits::get::<u64>(h, 96, 32);
     Raw { high, low }
 }
 
