@@ -132,6 +132,8 @@ impl Receiver {
     // The reply to a report that is accepted, or refused for a fault: it is read and judged, and the answer is told. To a
     // refused one no time has gone by, and it brings nothing. What is lost is told of the assembly as it was before the
     // report.
+    // Kept: place, kind and blocks are arguments, as C hands them over: a struct of them would be made in `hear_in_place`
+    // and taken apart in `read`, which is no plainer.
     fn reply(
         &mut self,
         accepted: Result<(), Fault>,
