@@ -63,7 +63,8 @@ module _ (b : List Bool) where
       let k = n - suc t in
       let e : k + suc t ≡ n = omega arith in
       let end : drop k b ≡ true ∷ replicate t false =
-      sym (bits_n_is (suc t) (2 ^ t) (drop k b) (rw (length-drop k b) (omega arith)) (sym (num_low b k (suc t) e) ∙ low))
+      sym (bits_n_is (suc t) (2 ^ t) (drop k b) (rw (length-drop k b) (omega arith))
+      (sym (num_low b k (suc t) e) ∙ low))
       ∙ fill_start t in (
         take k b,
         ap strip (sym (take-append-drop k b) ∙ ap (λ (x : List Bool). take k b ++ x) end)
@@ -82,7 +83,8 @@ pub record Turn (s : List ℕ) (from to j a : ℕ) : Type 0 where
   pub more : get_or s j 0 / 2 ^ a ≡ 0 → strip (slice (8 * j) to (bits_of s)) ≡ none
   pub found : 0 < get_or s j 0 / 2 ^ a
       → (count_trailing_zeros 8 (get_or s j 0 / 2 ^ a) ≤ 8 * j + 7 - a)
-      × (Some (8 * j + 7 - a - count_trailing_zeros 8 (get_or s j 0 / 2 ^ a)) ≡ found_at from (strip (slice from to (bits_of s))))
+      × (Some (8 * j + 7 - a - count_trailing_zeros 8 (get_or s j 0 / 2 ^ a))
+      ≡ found_at from (strip (slice from to (bits_of s))))
 
 -- where these bits stand after the room, and there is no 1 after the byte
 module _ (s : List ℕ) (from to i j a : ℕ) (n : i ≡ suc j) (f : from ≤ 8 * j) (h : 8 * j < to) (t : to ≤ 8 * length s)

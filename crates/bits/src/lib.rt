@@ -1,7 +1,8 @@
 // Bit strings over lent bytes: eight bits to a byte, the first bit highest.
 #![tactic(auto)]
 
-ghost use Rattle.std.specs.Prelude.{ℕ, ◌≡◌, false, ◌+◌, ◌-◌, ◌*◌, ◌/◌, ◌%◌, ◌^◌, ◌≤◌, ◌<◌, min, leb, length, take, drop, replicate};
+ghost use Rattle.std.specs.Prelude.{◌≡◌, false, leb, length, take, drop, replicate};
+ghost use Rattle.std.specs.Prelude.{ℕ, ◌+◌, ◌-◌, ◌*◌, ◌/◌, ◌%◌, ◌^◌, ◌≤◌, ◌<◌, min};
 ghost use Rattle.std.proofs.Math.Seq.{slice};
 ghost use Rattle.std.proofs.Common.{rules};
 ghost use Rattle.bits.specs.Bits.{num, bits_n, bits_of, over, Inside, Got};
@@ -35,8 +36,8 @@ fn load(s: &[u8]) -> u64
     ensures { result ≡ num (bits_of s.now) }
 {
     let mut acc: u64 = 0;
-    for &x in s {
-        acc = (acc << 8) | u64::from(x);
+    for (i, &x) in s.iter().rev().enumerate() {
+        acc |= u64::from(x) << (8 * i);
     }
     acc
 }

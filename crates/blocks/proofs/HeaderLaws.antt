@@ -6,6 +6,7 @@ use Prim.Native.Nat.{ℕ, ◌+◌, ◌*◌, ◌/◌, ◌%◌, ◌^◌, ◌≤◌
 use native.Mathlib.Nat.{add-zero}
 use native.Mathlib.Omega.{arith}
 use borrow.Author.Tests.{ne_eqb}
+use Rattle.std.proofs.lemmas.Bool.Decides.{nat_tests}
 use lib.Bits.{bit_and, and_mask}
 use lib.Dec.{eqb}
 use lib.ListN.{length, take, drop, length-take, length-drop}
@@ -19,12 +20,8 @@ use Rattle.blocks.specs.Header.{fragmented_in, body_of}
 use Rattle.blocks.specs.declared.header.Tail.{Tail}
 use Rattle.blocks.specs.declared.header.Addressed.{Addressed}
 
-cond_le : (t : Bool) → cond t 0 24 ≤ 24
-cond_le true = omega arith
-cond_le false = omega arith
-
 pub address_width_le : (kind : ℕ) → address_width kind ≤ 24
-address_width_le kind = cond_le (eqb kind 2)
+address_width_le kind = grind (arith, nat_tests)
 
 -- an address takes 2 to 26 bits
 pub next_le : (at : ℕ) (b : List Bool) {d : Addressed} → d ≡ address_at at b → d.next ≤ at + 26

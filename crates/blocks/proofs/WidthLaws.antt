@@ -1,6 +1,6 @@
 -- The laws of the table of widths. Assumes nothing.
 use mathlib.Core.Path.{◌≡◌, refl, sym, ap, ap₂, ◌∙◌, subst}
-use mathlib.Core.Bool.{Bool, true, false}
+use mathlib.Core.Bool.{Bool, true, false, ◌&&◌, ◌||◌}
 use mathlib.Core.List.{List, [], ◌∷◌, ◌++◌}
 use Prim.Native.Nat.{ℕ, zero, suc, ◌+◌, ◌≤◌, ◌<◌}
 use native.Mathlib.Omega.{arith}
@@ -14,44 +14,43 @@ use Rattle.bits.specs.Bits.{num, field}
 use Rattle.blocks.specs.Widths.{table, no_entry, entry_of, added, added_if, width_of}
 use Rattle.blocks.specs.declared.widths.Entry.{Entry}
 use Rattle.blocks.specs.declared.widths.Flag.{Flag}
-use Rattle.blocks.proofs.Tables.{both, both_left, both_right, either, T_true, at_any}
+use Rattle.bits.proofs.Tests.{both}
+use Rattle.blocks.proofs.Tables.{at_any}
+
+-- one of two tests passes, so one of what they say holds
+of_tests : {P Q : Type 0} (s t : Bool) → (s ≡ true → P) → (t ≡ true → Q) → T (s || t) → P ⊎ Q
+of_tests true t p q e = inl (p refl)
+of_tests false true p q e = inr (q refl)
+of_tests false false p q e = absurd e
 
 -- how far in a flag stands in elements of width w, and how much it adds
 pub record NearFlag (w : ℕ) (f : Flag) : Type 0 where
   pub place : f.place ≤ 10
   pub adds : f.adds ≤ 12
-  pub within : either (eqb f.adds 0) (ltb f.place w) ≡ true
+  pub within : T (eqb f.adds 0 || ltb f.place w)
 
 pub record Near (e : Entry) : Type 0 where
   pub first : NearFlag e.width e.first
   pub second : NearFlag e.width e.second
-  pub width : either (leb e.width 21) (eqb e.width 255) ≡ true
+  pub width : T (leb e.width 21 || eqb e.width 255)
 
 abbrev near_flag? : ℕ → Flag → Bool
-near_flag? w f = both (leb f.place 10) (both (leb f.adds 12) (either (eqb f.adds 0) (ltb f.place w)))
+near_flag? w f = leb f.place 10 && (leb f.adds 12 && (eqb f.adds 0 || ltb f.place w))
 
 abbrev near? : Entry → Bool
-near? e =
-    both (near_flag? e.width e.first)
-    (both (near_flag? e.width e.second) (either (leb e.width 21) (eqb e.width 255)))
+near? e = near_flag? e.width e.first && (near_flag? e.width e.second && (leb e.width 21 || eqb e.width 255))
 
 near_flag : (w : ℕ) (f : Flag) → T (near_flag? w f) → NearFlag w f
 near_flag w f t =
-    let u = both_right (leb f.place 10) _ t in
-    record {
-      place = leb→le f.place 10 (both_left (leb f.place 10) _ t);
-      adds = leb→le f.adds 12 (both_left (leb f.adds 12) _ u);
-      within = T_true _ (both_right (leb f.adds 12) _ u);
-    }
+    let u = both (leb f.place 10) _ t in
+    let v = both (leb f.adds 12) _ u.1 in
+    record { place = leb→le f.place 10 u.0; adds = leb→le f.adds 12 v.0; within = v.1 }
 
 nearly : (e : Entry) → T (near? e) → Near e
 nearly e t =
-    let u = both_right (near_flag? e.width e.first) _ t in
-    record {
-      first = near_flag e.width e.first (both_left (near_flag? e.width e.first) _ t);
-      second = near_flag e.width e.second (both_left (near_flag? e.width e.second) _ u);
-      width = T_true _ (both_right (near_flag? e.width e.second) _ u);
-    }
+    let u = both (near_flag? e.width e.first) _ t in
+    let v = both (near_flag? e.width e.second) _ u.1 in
+    record { first = near_flag e.width e.first u.0; second = near_flag e.width e.second v.0; width = v.1 }
 
 pub near_entry : (m : ℕ) {e : Entry} → e ≡ entry_of m → Near e
 unfolding entry_of
@@ -90,17 +89,12 @@ added_if_le : (t : Bool) (n : ℕ) → added_if t n ≤ n
 added_if_le true n = omega arith
 added_if_le false n = omega arith
 
-pub added_le : {a : ℕ} (flag n : ℕ) → a ≡ added flag n → a ≤ n
+added_le : {a : ℕ} (flag n : ℕ) → a ≡ added flag n → a ≤ n
 added_le flag n e = rw e (added_if_le (eqb flag 1) n)
 
 -- an entry's width is at most 21, or the mark's
-either_le : (t u : Bool) (w : ℕ) → leb w 21 ≡ t → eqb w 255 ≡ u → either t u ≡ true → (w ≤ 21) ⊎ (w ≡ 255)
-either_le true u w a b e = inl (leb-true w 21 a)
-either_le false true w a b e = inr (eqb-true w 255 b)
-either_le false false w a b e = let z : ◌≡◌ {A = ℕ} 0 1 = cc in absurd (omega arith)
-
 entry_width : (e : Entry) → Near e → (e.width ≤ 21) ⊎ (e.width ≡ 255)
-entry_width e s = either_le (leb e.width 21) (eqb e.width 255) e.width refl refl s.width
+entry_width e s = of_tests (leb e.width 21) (eqb e.width 255) (leb-true e.width 21) (eqb-true e.width 255) s.width
 
 -- flags add at most 24 bits
 width_range : (e : Entry) (run : List Bool) → Near e → (e.width ≤ width_of e run) × (width_of e run ≤ e.width + 24)
@@ -172,10 +166,8 @@ added_none true = refl
 added_none false = refl
 
 -- a flag that adds something stands within the entry's width
-flag_when : (s t : Bool) (p a w : ℕ) → eqb a 0 ≡ s → ltb p w ≡ t → either s t ≡ true → (a ≡ 0) ⊎ (p < w)
-flag_when true t p a w x y e = inl (eqb-true a 0 x)
-flag_when false true p a w x y e = inr (ltb-true p w y)
-flag_when false false p a w x y e = let z : ◌≡◌ {A = ℕ} 0 1 = cc in absurd (omega arith)
+flag_when : (p a w : ℕ) → T (eqb a 0 || ltb p w) → (a ≡ 0) ⊎ (p < w)
+flag_when p a w = of_tests (eqb a 0) (ltb p w) (eqb-true a 0) (ltb-true p w)
 
 added_in : (p a : ℕ) (l rest : List Bool) → (a ≡ 0) ⊎ (p < length l)
     → added (field p 1 (l ++ rest)) a ≡ added (field p 1 l) a
@@ -194,7 +186,7 @@ module _ (m : ℕ) (l rest : List Bool) where
       let s = near_entry m {e = e} refl in
       added_in f.place f.adds l rest
       (⊎_elim inl (λ p. inr (omega arith))
-      (flag_when (eqb f.adds 0) (ltb f.place e.width) f.place f.adds e.width refl refl s.first.within))
+      (flag_when f.place f.adds e.width s.first.within))
 
   same_width : e.width + added (field e.first.place 1 l) e.first.adds ≤ length l
       → width_of e (l ++ rest) ≡ width_of e l
@@ -206,8 +198,7 @@ module _ (m : ℕ) (l rest : List Bool) where
       let second : added (field (a + g.place) 1 (l ++ rest)) g.adds ≡ added (field (a + g.place) 1 l) g.adds =
       added_in (a + g.place) g.adds l rest
       (⊎_elim inl (λ p. inr (omega arith))
-      (flag_when (eqb g.adds 0) (ltb g.place e.width) g.place g.adds e.width refl refl
-      s.second.within)) in
+      (flag_when g.place g.adds e.width s.second.within)) in
       rw (first_same (omega arith), second) refl
 
   -- so it does where its length is that width, with or without what follows

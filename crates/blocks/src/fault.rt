@@ -1,6 +1,6 @@
 // Why a call is refused, or a block counts as nothing heard.
 ghost use Rattle.std.specs.Prelude.{◌≡◌};
-ghost use Rattle.blocks.specs.Faults.{number_of, refusal};
+ghost use Rattle.blocks.specs.Faults.{number_of};
 
 // The faults, by their numbers; 0 is the number of none.
 #[derive(Clone, Copy, PartialEq, Eq)]
@@ -72,15 +72,5 @@ impl Fault {
         ensures { result ≡ number_of self }
     {
         self as u8
-    }
-}
-
-// The number of a test's outcome: that of the fault, 0 where there is none.
-pub fn refusal(tested: Result<(), Fault>) -> u8
-    ensures { result ≡ refusal tested }
-{
-    match tested {
-        Ok(()) => 0,
-        Err(fault) => fault.number(),
     }
 }

@@ -87,7 +87,7 @@ pub(crate) fn checked_blocks<'a>(s: &[u8], h: &'a [u8]) -> Result<Checked<'a>, F
 
 // The fields as they stand.
 #[tactic(auto, unfolding(crate::specs::Sync::sync_of))]
-fn sync_of(s: &[u8; SchS::BYTES]) -> Sync
+pub(crate) fn sync_of(s: &[u8; SchS::BYTES]) -> Sync
     ensures { result ≡ sync_of (bits_of s.now) }
 {
     Sync {

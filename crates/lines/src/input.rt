@@ -8,6 +8,7 @@ use records::two_at;
 use std::io::Read;
 
 // What was read: a record's kind and the length of its body, which stands at the buffer's start.
+// Kept: an enum of its own, since there are three cases; `Result<Option<..>, ..>` would say `Cut` by an error's name.
 #[derive(Clone, Copy)]
 pub enum Taken {
     Record(u16, usize),

@@ -2,6 +2,10 @@
 ghost use Rattle.std.specs.Prelude.{◌≡◌, true, false, [], ◌∷◌, ◌++◌, ◌+◌, ◌*◌, ◌≤◌, ◌<◌, length, drop};
 ghost use Rattle.std.specs.Io.KnownBytes.{Appends};
 ghost use Rattle.text.specs.Text.{Wrote, decimal_of, hex_of};
+ghost use Rattle.std.specs.Prelude.{IsSomeAnd, replicate};
+ghost use Rattle.std.proofs.Math.Option.{none};
+ghost use Rattle.records.specs.Numbers.{two_at};
+ghost use Rattle.lines.specs.Built.{Callable, Lent};
 ghost use Rattle.lines.specs.Lines.{Stands, Says, start_of, line_of, line_with, line_then};
 ghost use Rattle.lines.specs.Lines.{hex_text, rest_of, shown_of, unknown_line};
 
@@ -119,6 +123,34 @@ pub fn unknown(out: &mut [u8]) -> Option<usize>
     ensures { Says out.old unknown_line out.new result }
 {
     Some(text::copy(out, 0, b"kind\n"))
+}
+
+// The most bytes that a call is lent for its output.
+const LENT: usize = 1024;
+
+// The line of a build: `built` puts it together from the body, and is lent an output that is as long as the body says at
+// place 33, each byte as before a call. Above 1,024 bytes it is of a kind that there is not.
+pub fn line_of_build<F: FnOnce(&[u8], &mut [u8], &mut [u8]) -> usize>(
+    body: &[u8],
+    line: &mut [u8],
+    built: F,
+) -> Option<usize>
+    requires room { 4096 ≤ length line.old }
+    requires callable { Callable F.FnOnce built }
+    ensures short { length body.now < 35 → Says line.old none line.new result }
+    ensures unknown { 35 ≤ length body.now → 1024 < two_at body.now 33 → Says line.old unknown_line line.new result }
+    ensures built { 35 ≤ length body.now → two_at body.now 33 ≤ 1024
+        → IsSomeAnd result (λ n. Lent F.FnOnce built body.now (replicate (two_at body.now 33) 90) line.old n line.new) }
+{
+    if body.len() < 35 {
+        return None;
+    }
+    let lent = usize::from(records::two_at(body, 33));
+    if LENT < lent {
+        return unknown(line);
+    }
+    let mut out = [BEFORE; LENT];
+    Some(built(body, &mut out[..lent], line))
 }
 
 // Writes a line to `to`, as to standard output; false where it takes no more.

@@ -4,7 +4,7 @@ ghost use Rattle.lines.specs.Lines.{Stands, Says};
 ghost use Rattle.probe_blocks.specs.Calls.{built_text, build_line, header_line, block_line, frame_line};
 
 use crate::{body, print};
-use lines::line::{BEFORE, unknown};
+use lines::line::line_of_build;
 
 // A build into this output.
 fn built(body: &[u8], out: &mut [u8], line: &mut [u8]) -> usize
@@ -14,6 +14,7 @@ fn built(body: &[u8], out: &mut [u8], line: &mut [u8]) -> usize
 {
     let sync = body::sync(body);
     let fields = body::fields(body);
+    // Kept: `as`, since a `usize` is no `From` of a `u32`.
     let n = records::four(body, 29) as usize;
     let b = build::build(sync, body[4], fields, n, &body[35..], out);
     print::build(line, b, out)
@@ -23,15 +24,7 @@ pub(crate) fn build(body: &[u8], line: &mut [u8]) -> Option<usize>
     requires { 4096 ≤ length line.old }
     ensures { Says line.old (build_line body.now) line.new result }
 {
-    if body.len() < 35 {
-        return None;
-    }
-    let lent = usize::from(records::two_at(body, 33));
-    if 1024 < lent {
-        return unknown(line);
-    }
-    let mut out = [BEFORE; 1024];
-    Some(built(body, &mut out[..lent], line))
+    line_of_build(body, line, built)
 }
 
 pub(crate) fn header(body: &[u8], line: &mut [u8]) -> Option<usize>

@@ -1,4 +1,6 @@
 // The answers' lines.
+// Kept: a function for each kind, since word and numbers are all that is in one; `as` of a `usize`, of which a `u64` is
+// no `From`.
 ghost use Rattle.std.specs.Prelude.{◌≡◌, ◌≤◌, length};
 ghost use Rattle.lines.specs.Lines.{Stands};
 ghost use Rattle.probe_blocks.specs.Calls.{written_by, build_text, header_numbers, header_text, block_text, frame_text};

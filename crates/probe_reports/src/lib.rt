@@ -41,7 +41,7 @@ fn answer_numbers(a: Answer) -> [u64; 12]
     ]
 }
 
-// Of a message that is lost.
+// Of a message that is lost. Kept: `as` of a `usize`, of which a `u64` is no `From`.
 fn lost_numbers(x: Lost) -> [u64; 3]
     ensures { result ≡ lost_numbers x }
 {
@@ -114,6 +114,8 @@ pub fn report(before: Receiver, body: &[u8], line: &mut [u8]) -> Told<Receiver>
             line: unknown(line),
         };
     }
+    // Kept: lent here and not by `line_of_build`, since a report goes to a receiver too, and a buffer that is too long
+    // leaves that as it was.
     let mut message = [BEFORE; 1024];
     heard(before, body, &mut message[..lent], line)
 }

@@ -11,7 +11,7 @@ ghost use Rattle.probe_transport.specs.Calls.{read_line, built_text, build_line}
 ghost use Rattle.probe_transport.specs.Calls.{FreshTells, Called, BookTells};
 
 use bookings::Bookings;
-use lines::line::{BEFORE, Told, unknown};
+use lines::line::{Told, line_of_build};
 
 // Reads a message.
 pub fn read(body: &[u8], line: &mut [u8]) -> Option<usize>
@@ -22,6 +22,7 @@ pub fn read(body: &[u8], line: &mut [u8]) -> Option<usize>
         return None;
     }
     let fields = body::fields(0, body);
+    // Kept: `as`, since a `usize` is no `From` of a `u32`.
     let n = records::four(body, 9) as usize;
     let t = transport::read(fields, n, &body[13..]);
     Some(print::read(line, t))
@@ -34,6 +35,7 @@ fn built(body: &[u8], out: &mut [u8], line: &mut [u8]) -> usize
         line.new result }
 {
     let message = body::message(body);
+    // Kept: `as`, since a `usize` is no `From` of a `u32`.
     let n = records::four(body, 29) as usize;
     let b = transport::build(body[0], body[1], message, n, &body[35..], out);
     print::sdu(line, b, out)
@@ -44,15 +46,7 @@ pub fn build(body: &[u8], line: &mut [u8]) -> Option<usize>
     requires { 4096 ≤ length line.old }
     ensures { Says line.old (build_line body.now) line.new result }
 {
-    if body.len() < 35 {
-        return None;
-    }
-    let lent = usize::from(records::two_at(body, 33));
-    if 1024 < lent {
-        return unknown(line);
-    }
-    let mut out = [BEFORE; 1024];
-    Some(built(body, &mut out[..lent], line))
+    line_of_build(body, line, built)
 }
 
 // Makes the bookings fresh ones.
@@ -74,6 +68,7 @@ fn booked(before: Bookings, source: u32, body: &[u8], line: &mut [u8]) -> Told<B
         × Called before source body.now line.old line.new result }
 {
     let fields = body::fields(source, body);
+    // Kept: `as`, since a `usize` is no `From` of a `u32`.
     let n = records::four(body, 9) as usize;
     let reply = before.book(fields, n, &body[13..]);
     let after = reply.bookings;

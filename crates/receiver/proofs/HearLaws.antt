@@ -3,7 +3,7 @@
 use mathlib.Core.Path.{◌≡◌, refl, sym, ap, ap₂, ◌∙◌, subst}
 use mathlib.Core.Bool.{Bool, true, false, not, cond}
 use mathlib.Core.List.{List, [], ◌++◌}
-use Prim.Native.Nat.{ℕ, suc, ◌+◌, ◌≤◌, ◌<◌}
+use Prim.Native.Nat.{ℕ, suc, ◌+◌, ◌≤◌}
 use native.Mathlib.Omega.{arith}
 use lib.ListN.{length}
 use Rattle.std.specs.Prelude.{Result, Ok, Err, is_ok, eqb}
@@ -27,8 +27,8 @@ use Rattle.history.specs.declared.Outcome.TheVariants.{Quiet}
 use Rattle.history.specs.declared.What.TheVariants.{Nothing}
 use Rattle.blocks.specs.Faults.{number_of, refusal}
 use Rattle.blocks.specs.declared.fault.Fault.{Fault}
-use Rattle.history.proofs.Verdicts.{absurd_bool, Hands, no_hand, hand, Comes, passing, missing, keeping, closing}
-use Rattle.history.proofs.Verdicts.{heading, comes, rest_at}
+use Rattle.history.proofs.Verdicts.{absurd_bool}
+use Rattle.history.proofs.Verdicts.{rest_at}
 use Rattle.history.proofs.Bounds.{Small}
 use Rattle.history.proofs.Theorems.{theorem_told, theorem_dropped}
 use Rattle.history.proofs.LostHolds.{theorem_lost}

@@ -1,8 +1,8 @@
 -- The store and the lent buffer, by an act and an outcome. Assumes nothing.
-use mathlib.Core.Path.{◌≡◌, refl, sym, ap, ap₂, ◌∙◌}
+use mathlib.Core.Path.{◌≡◌, refl, sym, ap, ◌∙◌}
 use mathlib.Core.Bool.{Bool, true, false, cond}
 use mathlib.Core.List.{List, [], ◌++◌}
-use Prim.Native.Nat.{ℕ, zero, suc, ◌+◌, ◌≤◌}
+use Prim.Native.Nat.{ℕ, ◌+◌, ◌≤◌}
 use native.Mathlib.Omega.{arith}
 use lib.ListN.{length, drop, length-append, length-drop}
 use lib.Seq.{length-take-le}
@@ -16,12 +16,10 @@ use Rattle.history.specs.Slots.{no_loss}
 use Rattle.history.specs.Step.{Outcome, message_of, clears, joins, joined_after, outcome_of, outcome_number}
 use Rattle.history.specs.declared.Outcome as code
 use Rattle.history.specs.declared.Outcome.TheVariants.{Quiet, Single, Joined, Opened, Kept, Copied}
-use Rattle.history.specs.declared.Lost.{Lost}
 use Rattle.history.specs.declared.Act.{Act}
 use Rattle.history.specs.declared.Act.TheVariants.{Stays, Ends, Opens, Takes}
 use Rattle.reports.specs.declared.read.Brought.{Brought}
 use Rattle.receiver.specs.View.{answer_of, plain_answer, brought_bits, Tells}
-use Rattle.receiver.specs.declared.answer.Answer.{Answer}
 
 -- so many bits are brought
 pub length_brought : (x : Brought) (blocks : List ℕ) → Inside (length blocks) x.from (x.from + x.bits)
@@ -69,13 +67,6 @@ left_least false n = omega arith
 module _ (act : Act) (j b : List Bool) {at left : ℕ} (s : left ≡ cond (clears act) 0 at) (e : at ≡ length j) where
   pub left_is : left ≡ length (left_of act j)
   left_is = s ∙ ap (λ (n : ℕ). cond (clears act) 0 n) e ∙ count_left act j
-
-  pub none_joined : joins act ≡ false → left ≡ length (joined_after act b j)
-  none_joined d = left_is ∙ ap length (sym (joined_is act b j d))
-
-  pub some_joined : {n : ℕ} → n ≡ length b → joins act ≡ true → left + n ≡ length (joined_after act b j)
-  some_joined f d =
-      ap₂ ◌+◌ left_is f ∙ sym (length-append (left_of act j) b) ∙ ap length (sym (joined_is act b j d))
 
 -- the bits of a store, and of a block after them
 pub join_is : {old new : List ℕ} {at : ℕ} (j b : List Bool) → old ≡ store_of j → at ≡ length j → at + length b ≤ 4096

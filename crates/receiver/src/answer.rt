@@ -1,7 +1,6 @@
 // The answer to a report.
 ghost use Rattle.std.specs.Prelude.{◌≡◌, cond, ◌+◌, ◌≤◌, length};
 ghost use Rattle.bits.specs.Bits.{Inside};
-ghost use Rattle.history.specs.Slots.{no_loss};
 ghost use Rattle.history.specs.Step.{outcome_number, is_acknowledged, lost_of};
 ghost use Rattle.history.specs.declared.Outcome.TheVariants.{Quiet};
 ghost use Rattle.receiver.specs.View.{plain_answer, with_loss, brought_bits, Told};
@@ -12,6 +11,7 @@ use reports::read::Brought;
 
 // The answer to a report: its outcome; 1 where an open assembly ended here without being handed over; the fault; the
 // bits of the message that is handed over, and its header's fields; what is told of the assembly that ended here.
+// Kept: numbers and a mark, as pierstrand.h shows them.
 #[repr(C)]
 #[derive(Clone, Copy)]
 pub struct Answer {
@@ -21,17 +21,6 @@ pub struct Answer {
     pub bits: usize,
     pub fields: Fields,
     pub lost: Lost,
-}
-
-// Nothing is lost.
-fn no_loss() -> Lost
-    ensures { result ≡ no_loss }
-{
-    Lost {
-        source: 0,
-        message: 0,
-        bits: 0,
-    }
 }
 
 // An answer that hands nothing over, and tells of no loss.
@@ -44,7 +33,7 @@ fn plain(outcome: Outcome, dropped: bool, fault: u8) -> Answer
         fault,
         bits: 0,
         fields: no_fields(),
-        lost: no_loss(),
+        lost: Lost::default(),
     }
 }
 
@@ -67,7 +56,7 @@ pub(crate) fn lost_of(dropped: bool, source: u32, message: u8, bits: usize) -> L
             bits,
         }
     } else {
-        no_loss()
+        Lost::default()
     }
 }
 

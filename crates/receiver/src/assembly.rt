@@ -11,6 +11,7 @@ use reports::read::Brought;
 use reports::run::{clears, joins, no_run};
 
 // What is kept of the open run, the number of bits joined, and the store that holds them.
+// Kept: a number beside an array, as pierstrand.h shows them.
 #[repr(C)]
 #[derive(Clone, Copy)]
 pub struct Assembly {

@@ -4,20 +4,19 @@
 pub mod answer;
 pub mod assembly;
 
-ghost use Rattle.std.specs.Prelude.{◌≡◌, true, false, cond, is_ok, [], length};
+ghost use Rattle.std.specs.Prelude.{◌≡◌, true, false, cond, is_ok, length};
 ghost use Rattle.blocks.specs.Faults.{refusal};
 ghost use Rattle.history.specs.Step.{is_over};
 ghost use Rattle.reports.specs.Lent.{brought, lent};
-ghost use Rattle.reports.specs.Nears.{nears_of};
 ghost use Rattle.reports.specs.Turns.{follows};
 ghost use Rattle.receiver.specs.Reached.{refused_with, Reached, Hears};
-ghost use Rattle.receiver.specs.View.{no_place, replied, Brings, new_with, fresh_of};
+ghost use Rattle.receiver.specs.View.{replied, Brings, new_with, fresh_of};
 
 use crate::answer::{Answer, lost_of, told, with_loss};
 use crate::assembly::{Assembly, bits_after, clear, store_after};
 use blocks::fault::Fault;
 use history::{Nears, Place, What};
-use reports::near::{fall, keep, no_nears};
+use reports::near::{fall, forget, keep, no_nears};
 use reports::place::follows;
 use reports::read::{Brought, headless, read};
 use reports::report::report_rules;
@@ -26,6 +25,8 @@ use reports::unit::Settings;
 use reports::verdict::judge;
 
 // The receiver. What is not there is zero.
+// Kept: that a receiver was reached stands in the clauses of `fresh` and `hear` (`Reached`), and in no type: C lends the
+// record, and these clauses are what README.md and the theorems say of it.
 #[repr(C)]
 #[derive(Clone, Copy)]
 pub struct Receiver {
@@ -43,18 +44,12 @@ pub struct Reply {
 }
 
 // A fresh receiver, or the fault of its settings.
+// Kept: a number beside a receiver, in place of a Result, as pierstrand.h shows them.
 #[repr(C)]
 #[derive(Clone, Copy)]
 pub struct Fresh {
     pub fault: u8,
     pub receiver: Receiver,
-}
-
-// The place of a receiver that has heard nothing.
-fn no_place() -> Place
-    ensures { result ≡ no_place }
-{
-    Place { frame: 0, slot: 0 }
 }
 
 // One of two values. As a function, and no `if` where it is called: the reply has one way through (docs/DECISIONS.md,
@@ -96,15 +91,6 @@ fn heard(
     }
 }
 
-// Leaves no earlier headers where they are gone.
-fn forget(gone: bool, near: &mut Nears)
-    ensures { near.new ≡ cond gone (nears_of []) near.old }
-{
-    if gone {
-        *near = no_nears();
-    }
-}
-
 impl Receiver {
     // One that has heard nothing.
     fn new(settings: Settings) -> Receiver
@@ -112,7 +98,7 @@ impl Receiver {
     {
         Receiver {
             settings,
-            place: no_place(),
+            place: Place::default(),
             near: no_nears(),
             assembly: Assembly::none(),
         }
@@ -155,14 +141,15 @@ impl Receiver {
         message: &mut [u8],
     ) -> Answer
         requires reached { Reached self.old }
-        requires refused { refusal accepted ≡ refused_with (lent q.frame q.slot kind blocks.now) message.old }
+        requires refused { refusal accepted
+            ≡ refused_with (lent q.frame q.slot kind blocks.now) message.old }
         ensures { Reached self.new
             × Hears self.old (lent q.frame q.slot kind blocks.now) (replied self.new result)
             message.old message.new }
     {
         let ok = accepted.is_ok();
         let turn = in_turn(accepted, self.place, q);
-        let tick = either(ok, q, no_place());
+        let tick = either(ok, q, Place::default());
         let own = self.assembly.run;
         let lost = broken_off(turn, own);
         let run = older_run(turn, tick, own);
@@ -172,7 +159,15 @@ impl Receiver {
         clear(!turn, &mut self.assembly.store);
         let x = heard(accepted, self.settings, q, kind, blocks);
         let v = judge(x, run, &self.near, tick, lost);
-        let answer = told(v, x, run.fields, bits, &self.assembly.store, blocks, message);
+        let answer = told(
+            v,
+            x,
+            run.fields,
+            bits,
+            &self.assembly.store,
+            blocks,
+            message,
+        );
         store_after(v.act, &mut self.assembly.store, bits, x, blocks);
         let over = ending(accepted, q);
         fall(over, &mut self.near);
@@ -206,14 +201,7 @@ impl Receiver {
     }
 
     // The same by value: the receiver is given back, with the answer.
-    pub fn hear(
-        mut self,
-        frame: u8,
-        slot: u8,
-        kind: u8,
-        blocks: &[u8],
-        message: &mut [u8],
-    ) -> Reply
+    pub fn hear(mut self, frame: u8, slot: u8, kind: u8, blocks: &[u8], message: &mut [u8]) -> Reply
         requires { Reached self }
         ensures { Reached result.receiver
             × Hears self (lent frame slot kind blocks.now) result message.old message.new }

@@ -1,4 +1,6 @@
 // The earlier headers for this unit that copies can still come of: the first `count` of seven places of three numbers.
+// Kept: each function asks for a count of at most 7, and no field of `Nears` says it, since `nears_of`, on which
+// theorems of receivers stand, gives such a record of any list.
 ghost use Rattle.std.specs.Prelude.{◌≡◌, true, cond, [], ◌≤◌, ◌<◌, length};
 ghost use Rattle.history.specs.Step.{fits};
 ghost use Rattle.reports.specs.Nears.{nears_of, Placed, Put, Copied, Fallen, Kept};

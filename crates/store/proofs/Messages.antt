@@ -51,7 +51,8 @@ pub message_filled : (m : List Bool)
 unfolding message_bytes
 message_filled m =
     let q = (length m + 7) / 8 in
-    sym (bytes_of_take q (m ++ replicate 7 false)) ∙ ap (bytes_n q) (take_padded m (8 * q) 7 (omega arith) (omega arith))
+    sym (bytes_of_take q (m ++ replicate 7 false))
+    ∙ ap (bytes_n q) (take_padded m (8 * q) 7 (omega arith) (omega arith))
 
 -- a buffer that a message was handed to is as long as it was, and begins with the message's bits
 pub length_handed : (m : List Bool) (old : List ℕ) → length m ≤ 8 * length old → length (handed m old) ≡ length old
@@ -111,7 +112,8 @@ take_over t at m l h k =
 
 -- the bits of a buffer with the first bits of a store at its start
 bits_first : (k : ℕ) (store old : List ℕ)
-    → bits_of (first_over k store old) ≡ take (8 * ((k + 7) / 8)) (bits_of store) ++ drop (8 * ((k + 7) / 8)) (bits_of old)
+    → bits_of (first_over k store old)
+    ≡ take (8 * ((k + 7) / 8)) (bits_of store) ++ drop (8 * ((k + 7) / 8)) (bits_of old)
 bits_first k store old =
     let q = (k + 7) / 8 in
     rw (bits_of_append (take q store) (drop q old), bits_of_take q store, bits_of_drop q old) refl

@@ -1,7 +1,8 @@
 // The store of an assembly, 512 bytes: what goes into it and out of it; and SCH/H but for its countdown, as two
 // numbers.
 // Kept: a run of bits is three arguments, `s`, `from` and `n`, as `bits::copy` takes them. What a report brings has the
-// two numbers already, beside bytes that are lent apart, so a struct of the three would be made at each call, no plainer.
+// two numbers already, and its bytes are lent apart: a struct of the three would be made at each call, which is no
+// plainer.
 #![tactic(auto)]
 
 ghost use Rattle.std.specs.Prelude.{◌≡◌, [], ◌+◌, ◌≤◌, length, take, drop};
@@ -93,8 +94,8 @@ pub fn without_two(h: &[u8], at: usize) -> Raw
     requires { (length h.now ≡ 16) × (6 ≤ at) × (at ≤ 56) }
     ensures { result ≡ without at h.now }
 {
-    let high = (bits::get(h, 0, at) << (64 - at)) | bits::get(h, at + 2, 62 - at);
-    let low = (bits::get(h, 64, 32) << 32) | bits::get(h, 96, 32);
+    let high = (bits::get::<u64>(h, 0, at) << (64 - at)) | bits::get::<u64>(h, at + 2, 62 - at);
+    let low = (bits::get::<u64>(h, 64, 32) << 32) | bits::get::<u64>(h, 96, 32);
     Raw { high, low }
 }
 

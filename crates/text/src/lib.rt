@@ -1,5 +1,7 @@
 // Text in ASCII, written at a place of lent bytes: each function answers the place after what it wrote, and leaves
 // every other byte.
+// Kept: `out` and `at` side by side, and no struct of both, since docs/PROMISES.md has each call and its `Wrote` by
+// these names, and `lines` and `slotlog` write bytes of their own at the places between.
 #![tactic(auto)]
 
 ghost use Rattle.std.specs.Prelude.{◌+◌, ◌*◌, ◌≤◌, ◌<◌, ◌≡◌, length};

@@ -1,24 +1,18 @@
-use native.Mathlib.Omega.{arith}
-use lib.Seq.{take-length}
-use mathlib.Core.Path.{◌≡◌, refl}
-use lib.ListN.{length}
-use Rattle.bits.specs.Bits.{num, bits_of}
-use Rattle.bits.proofs.Bytes.{load_more}
+use Rattle.bits.proofs.Bytes.{loaded_none, loaded_more, loaded_all}
 use Rattle.bits.proofs.load.Goals as goal
 
-pub loop-x-init : goal.loop-x-init
-unfolding num bits_of
-loop-x-init c = refl
+pub loop-i-init : goal.loop-i-init
+loop-i-init c =
+    let e = c.enumerate-i-items.ensures in
+    rw (c.into_iter-i-iterator.ensures.into_iter_gives, e.source, e.count, c.rev.ensures.source, c.iter.ensures.rest)
+    (loaded_none c.args.s.now)
 
-pub loop-x-preserved : goal.loop-x-preserved
-loop-x-preserved c =
-    let l = c.loop-x in
-    rw c.from.ensures
-    (load_more c.args.s.now l.x-index l.acc (omega arith) (omega arith) (omega (arith, c.type_inv.s l.x-index))
-    l.invariant)
+pub loop-i-preserved : goal.loop-i-preserved
+loop-i-preserved c =
+    let s = c.in-Some.ensures.steps in
+    rw (s.1, s.2)
+    (loaded_more c.in-Some.field-0-1.now c.from.result c.requires (λ i. (c.type_inv.s i).fits) s.0 c.from.ensures
+    c.loop-i.invariant)
 
 pub returns : goal.returns
-returns c =
-    let s = c.args.s.now in
-    let e : c.loop-x.x-index ≡ length s = omega arith in
-    rw (take-length s) at (rw e at c.loop-x.invariant)
+returns c = loaded_all c.in-None.ensures.steps.0.0 c.loop-i.invariant

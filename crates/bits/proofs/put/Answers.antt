@@ -15,7 +15,8 @@ returns c =
     let n = c.put_through-2.new.out in
     let k : f + 8 - f ≡ 8 = omega arith in
     let e : a.at - f * 8 % 2 ^ 64 ≡ a.at - 8 * f = omega arith in
-    let p : bits_of n ≡ over (a.at - 8 * f) (bits_n a.w a.v) (bits_of (take 8 (drop f s))) = rw (e, k) at c.put_through-2.ensures in
+    let p : bits_of n ≡ over (a.at - 8 * f) (bits_n a.w a.v) (bits_of (take 8 (drop f s))) =
+    rw (e, k) at c.put_through-2.ensures in
     rw k
     (put_part s n f 8 a.at (bits_n a.w a.v) (omega arith) (omega arith)
     (omega (arith, length_bits_n a.w a.v)) p)

@@ -1,5 +1,3 @@
-use mathlib.Core.Path.{◌≡◌}
-use lib.ListN.{length}
 use Rattle.bits.specs.Bits.{bits_of, over}
 use Rattle.bits.specs.Layout.{parts_with, pack}
 use Rattle.bits.proofs.Packing.{ToPut}
@@ -7,5 +5,6 @@ use Rattle.bits.proofs.put_all.Given as goal
 
 abbrev pub invariant-loop-width : goal.invariant-loop-width
 invariant-loop-width l =
-    (length l.out ≡ length l.initial.out)
-    × ToPut l.width-iterator.a.rest.now l.width-iterator.b.rest.now (over l.at (pack (parts_with l.widths l.values)) (bits_of l.initial.out)) l.out l.to l.n l.acc
+    let it = l.width-iterator in
+    ToPut it.a.rest.now it.b.rest.now (over l.at (pack (parts_with l.widths l.values)) (bits_of l.initial.out))
+    l.out l.to l.n l.acc

@@ -10,4 +10,5 @@ returns c =
     let a = c.args in
     let s = a.out.now in
     let r = length s * 8 % 2 ^ 64 - (a.at + a.w) in
-    c.store.ensures ∙ rw (c.pasted.ensures, c.load-whole.ensures) (put_field s a.at a.w a.v r (omega arith) (omega arith))
+    c.store.ensures ∙ rw (c.pasted.ensures, c.load-whole.ensures)
+    (put_field s a.at a.w a.v r (omega arith) (omega arith))

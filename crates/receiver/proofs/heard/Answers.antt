@@ -1,5 +1,4 @@
-use mathlib.Core.Path.{refl, ap, ◌∙◌}
-use Rattle.blocks.specs.Faults.{refusal}
+use mathlib.Core.Path.{refl, ◌∙◌}
 use Rattle.reports.specs.Lent.{lent}
 use Rattle.receiver.proofs.HearLaws.{brings_fault, brings_read}
 use Rattle.receiver.proofs.heard.Goals as goal

@@ -1,15 +1,9 @@
 use mathlib.Core.Path.{◌∙◌}
 use native.Mathlib.Omega.{arith}
-use lib.ListN.{length-set}
 use Rattle.text.proofs.Writing.{wrote_both}
 use Rattle.lines.specs.Lines.{line_then, start_with}
 use Rattle.lines.proofs.Printing.{ended}
 use Rattle.lines.proofs.line.line_then.Goals as goal
-
-pub shape_of-out : goal.shape_of-out
-shape_of-out c =
-    simp length-set
-    (c.numbers-end.auto.out ∙ (c.shown-after.auto.out ∙ c.start-at.auto.out))
 
 pub returns : goal.returns
 unfolding line_then start_with

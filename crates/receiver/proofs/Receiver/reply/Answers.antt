@@ -1,6 +1,8 @@
-use mathlib.Core.Path.{refl, sym, ◌∙◌}
+use mathlib.Core.Path.{◌≡◌, refl, sym, ◌∙◌}
 use native.Mathlib.Omega.{arith}
+use borrow.Author.Rules.{rules}
 use Rattle.reports.specs.Lent.{lent}
+use Rattle.receiver.specs.View.{no_place}
 use Rattle.receiver.proofs.AcceptedLaws.{passes}
 use Rattle.receiver.proofs.HearLaws.{run_small, bits_small, count_few, kept_near, judged_kept, left_few, left_free}
 use Rattle.receiver.proofs.HearLaws.{tells_inside, replied}
@@ -78,6 +80,7 @@ pub returns : goal.returns
 returns c =
     let a = c.args in
     let ok = c.is_ok-ok.ensures.value in
+    let none : c.default.result ≡ no_place = search rules in
     replied c.requires.reached (lent a.q.frame a.q.slot a.kind a.blocks.now) a.message.now a.accepted
     c.requires.refused
     (record {
@@ -95,7 +98,7 @@ returns c =
       left = c.fall.new.near;
       loss = c.lost_of-loss.result;
       turn_is = c.in_turn-turn.ensures;
-      tick_is = c.either-tick.ensures ∙ rw (ok, c.no_place.ensures) refl;
+      tick_is = c.either-tick.ensures ∙ rw (ok, none) refl;
       lost_is = c.broken_off-lost.ensures;
       run_is = c.older_run-run.ensures;
       near_is = c.forget.ensures;
