@@ -54,31 +54,19 @@ fn answer(call: u16, body: &[u8], s: &mut [u8], t: &[u8]) -> Result<Said, Untake
     }
 }
 
-fn number_line<W: Write>(to: &mut W, n: u64) -> bool {
-    let mut out = [0u8; 32];
-    let end = line::number(&mut out, n);
-    line::say(to, &out[..end])
-}
-
-fn bytes_line<W: Write>(to: &mut W, s: &[u8]) -> bool
-    requires { length s.now ≤ 255 }
-{
-    let mut out = [0u8; 512];
-    let end = line::bytes(&mut out, s);
-    line::say(to, &out[..end])
-}
-
 // Writes the line of an answer, whose bytes are those of `s`; false where nobody takes it.
 fn told<W: Write>(to: &mut W, said: Result<Said, Untaken>, s: &[u8]) -> bool
     requires { length s.now ≤ 255 }
 {
-    match said {
-        Ok(Said::Number(n)) => number_line(to, n),
-        Ok(Said::Bytes) => bytes_line(to, s),
-        Ok(Said::Nothing) => line::say(to, b"none\n"),
-        Err(Untaken::Range) => line::say(to, b"range\n"),
-        Err(Untaken::Unknown) => line::say(to, b"call\n"),
-    }
+    let mut out = [0u8; 512];
+    let end = match said {
+        Ok(Said::Number(n)) => line::number(&mut out, n),
+        Ok(Said::Bytes) => line::bytes(&mut out, s),
+        Ok(Said::Nothing) => text::copy(&mut out, 0, b"none\n"),
+        Err(Untaken::Range) => text::copy(&mut out, 0, b"range\n"),
+        Err(Untaken::Unknown) => text::copy(&mut out, 0, b"call\n"),
+    };
+    line::say(to, &out[..end])
 }
 
 // A DMAC-END in a block of its own.

@@ -55,7 +55,7 @@ impl Printer {
         let mut out = [0u8; 65536];
         let r = Run::part(self.receiver, log, all, &mut out);
         let left = all - r.read;
-        if !line::say(to, &out, r.written) {
+        if !line::say(to, &out[..r.written]) {
             return None;
         }
         match r.state {
@@ -116,7 +116,7 @@ fn start<R: Read, W: Write>(input: &mut R, to: &mut W, log: &mut [u8])
             print(input, to, receiver, log, got - begun.took);
         }
         Err(_) => {
-            line::say(to, b"unit\n", 5);
+            line::say(to, b"unit\n");
         }
     }
 }

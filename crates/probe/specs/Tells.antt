@@ -6,11 +6,11 @@ use Rattle.bookings.specs.Kept as bookings
 use Rattle.lines.specs.Lines.{Says}
 use Rattle.probe_blocks.specs.Calls.{record_line}
 use Rattle.probe_reports.specs.Reports.{Either, UnitTells, ReportTells}
-use Rattle.probe_reports.specs.declared.ReceiverLine as reports
+use Rattle.lines.specs.declared.line.Told.{Told}
+use Rattle.receiver.specs.declared.Receiver.{Receiver}
 use Rattle.probe_transport.specs.Calls.{read_line, build_line, FreshTells, BookTells}
-use Rattle.probe_transport.specs.declared.BookingsLine as transport
+use Rattle.bookings.specs.declared.Bookings.{Bookings}
 use Rattle.probe.specs.declared.State.{State}
-use Rattle.probe.specs.declared.StateLine.{StateLine}
 
 -- A receiver and bookings that their fresh ones or earlier calls gave.
 pub record StateReached (s : State) : Type 0 where
@@ -18,33 +18,33 @@ pub record StateReached (s : State) : Type 0 where
   pub bookings : bookings.Reached s.bookings
 
 -- What is kept and said with another receiver, or with other bookings.
-abbrev pub with_receiver : State → reports.ReceiverLine → StateLine
+abbrev pub with_receiver : State → Told Receiver → Told State
 with_receiver before t =
-    record { state = record { receiver = t.receiver; bookings = before.bookings }; line = t.line }
+    record { state = record { receiver = t.state; bookings = before.bookings }; line = t.line }
 
-abbrev pub with_bookings : State → transport.BookingsLine → StateLine
+abbrev pub with_bookings : State → Told Bookings → Told State
 with_bookings before t =
-    record { state = record { receiver = before.receiver; bookings = t.bookings }; line = t.line }
+    record { state = record { receiver = before.receiver; bookings = t.state }; line = t.line }
 
 -- A record that gives another receiver leaves the bookings alone.
-pub record ToReceiver (tells : reports.ReceiverLine → Type 0) (before : State) (t : StateLine) : Type 0 where
-  pub next : reports.ReceiverLine
+pub record ToReceiver (tells : Told Receiver → Type 0) (before : State) (t : Told State) : Type 0 where
+  pub next : Told Receiver
   pub holds : tells next
   pub only : t ≡ with_receiver before next
 
 -- One that gives other bookings leaves the receiver alone.
-pub record ToBookings (tells : transport.BookingsLine → Type 0) (before : State) (t : StateLine) : Type 0 where
-  pub next : transport.BookingsLine
+pub record ToBookings (tells : Told Bookings → Type 0) (before : State) (t : Told State) : Type 0 where
+  pub next : Told Bookings
   pub holds : tells next
   pub only : t ≡ with_bookings before next
 
 -- And one that only prints leaves both alone.
-pub record OnlyPrints (line : Option (List ℕ)) (before : State) (old new : List ℕ) (t : StateLine) : Type 0 where
+pub record OnlyPrints (line : Option (List ℕ)) (before : State) (old new : List ℕ) (t : Told State) : Type 0 where
   pub says : Says old line new t.line
   pub same : t.state ≡ before
 
 -- By the record's kind.
-unfoldable pub Tells : State → ℕ → List ℕ → List ℕ → List ℕ → StateLine → Type 0
+unfoldable pub Tells : State → ℕ → List ℕ → List ℕ → List ℕ → Told State → Type 0
 Tells before kind body old new t =
     Either (eqb kind 0) (ToReceiver (UnitTells before.receiver body old new) before t)
     (Either (eqb kind 4) (ToReceiver (ReportTells before.receiver body old new) before t)
@@ -56,7 +56,7 @@ Tells before kind body old new t =
 
 -- What is kept after a record is what comes with its line.
 pub record Kept (before : State) (kind : ℕ) (body : List ℕ) (after : State) : Type 0 where
-  pub next : StateLine
+  pub next : Told State
   pub line : List ℕ
   pub tells : Tells before kind body (replicate 4096 0) line next
   pub kept : after ≡ next.state

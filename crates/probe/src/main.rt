@@ -47,13 +47,13 @@
 // than its kind, prints `cut`, and nothing is read after it.
 #![tactic(auto)]
 
-ghost use Rattle.std.specs.Prelude.{◌≡◌, ◌≤◌, length};
-ghost use Rattle.probe.specs.Tells.{StateReached, with_receiver, with_bookings, Tells, Kept};
+ghost use Rattle.std.specs.Prelude.{◌≡◌, ◌≤◌, length, IfSome};
+ghost use Rattle.probe.specs.Tells.{StateReached, Tells, Kept};
 
 use bookings::Bookings;
 use lines::input::Taken;
 use lines::line;
-use lines::line::Line;
+use lines::line::Told;
 use receiver::Receiver;
 use std::io::{Read, Write};
 
@@ -64,129 +64,94 @@ struct State {
     bookings: Bookings,
 }
 
-// What is kept after a record, and the record's line.
-#[derive(Clone, Copy)]
-struct StateLine {
-    state: State,
-    line: Line,
-}
-
-// What is kept after a record, and whether another is to be read.
-#[derive(Clone, Copy)]
-struct Step {
-    state: State,
-    more: bool,
-}
-
-// With the receiver after a record.
-fn with_receiver(before: State, after: probe_reports::ReceiverLine) -> StateLine
-    ensures { result ≡ with_receiver before after }
+// What is kept after a record, and the record's line, of a call that keeps one part of it.
+fn kept<S: Drop, F: FnOnce(S) -> State>(after: Told<S>, with: F) -> Told<State>
+    requires { F.pre with after.state }
+    ensures state { F.post with after.state result.state }
+    ensures line { result.line ≡ after.line }
 {
-    let receiver = after.receiver;
-    let bookings = before.bookings;
     let line = after.line;
-    StateLine {
-        state: State { receiver, bookings },
-        line,
-    }
-}
-
-// With the bookings after a record.
-fn with_bookings(before: State, after: probe_transport::BookingsLine) -> StateLine
-    ensures { result ≡ with_bookings before after }
-{
-    let receiver = before.receiver;
-    let bookings = after.bookings;
-    let line = after.line;
-    StateLine {
-        state: State { receiver, bookings },
+    Told {
+        state: with(after.state),
         line,
     }
 }
 
 // The line of any record, and what is kept after it.
-fn tell(before: State, kind: u16, body: &[u8], line: &mut [u8]) -> StateLine
-    requires { StateReached before × (4096 ≤ length line.old) }
-    ensures { StateReached result.state
-        × Tells before kind body.now line.old line.new result }
+fn tell(before: State, kind: u16, body: &[u8], line: &mut [u8]) -> Told<State>
+    requires reached { StateReached before }
+    requires room { 4096 ≤ length line.old }
+    ensures reached { StateReached result.state }
+    ensures tells { Tells before kind body.now line.old line.new result }
 {
     let receiver = before.receiver;
     let bookings = before.bookings;
-    match kind {
-        0 => with_receiver(before, probe_reports::unit(receiver, body, line)),
-        4 => with_receiver(before, probe_reports::report(receiver, body, line)),
-        9 => StateLine {
-            state: before,
-            line: probe_transport::read(body, line),
-        },
-        10 => StateLine {
-            state: before,
-            line: probe_transport::build(body, line),
-        },
-        11 => with_bookings(before, probe_transport::fresh(line)),
-        12 => with_bookings(before, probe_transport::book(bookings, body, line)),
-        _ => StateLine {
-            state: before,
-            line: probe_blocks::answer(kind, body, line),
-        },
+    let with_receiver = |receiver: Receiver| -> State
+        ensures { (result.receiver ≡ receiver) × (result.bookings ≡ bookings) }
+    { State { receiver, bookings } };
+    let with_bookings = |bookings: Bookings| -> State
+        ensures { (result.receiver ≡ receiver) × (result.bookings ≡ bookings) }
+    { State { receiver, bookings } };
+    let line = match kind {
+        0 => return kept(probe_reports::unit(receiver, body, line), with_receiver),
+        4 => return kept(probe_reports::report(receiver, body, line), with_receiver),
+        9 => probe_transport::read(body, line),
+        10 => probe_transport::build(body, line),
+        11 => return kept(probe_transport::fresh(line), with_bookings),
+        12 => return kept(probe_transport::book(bookings, body, line), with_bookings),
+        _ => probe_blocks::answer(kind, body, line),
+    };
+    Told {
+        state: before,
+        line,
     }
 }
 
-// Answers a record.
-fn answer_record<W: Write>(to: &mut W, before: State, kind: u16, body: &[u8]) -> Step
+// Answers a record, and answers what is kept after it; none where nothing more is to be read.
+fn answer_record<W: Write>(to: &mut W, before: State, kind: u16, body: &[u8]) -> Option<State>
     requires { StateReached before }
-    ensures { StateReached result.state × Kept before kind body.now result.state }
+    ensures { IfSome result (λ after. StateReached after × Kept before kind body.now after) }
 {
     let mut out = [0u8; 4096];
     let after = tell(before, kind, body, &mut out);
-    let state = after.state;
-    let said = after.line;
-    let Line::Bytes(n) = said else {
-        return Step {
-            state,
-            more: line::cut(to),
-        };
+    let Some(n) = after.line else {
+        line::cut(to);
+        return None;
     };
-    Step {
-        state,
-        more: line::say(to, &out, n),
+    if line::say(to, &out[..n]) {
+        Some(after.state)
+    } else {
+        None
     }
 }
 
-fn next<R: Read, W: Write>(input: &mut R, to: &mut W, before: State) -> Step
+fn next<R: Read, W: Write>(input: &mut R, to: &mut W, before: State) -> Option<State>
     requires { StateReached before }
-    ensures { StateReached result.state }
+    ensures { IfSome result (λ after. StateReached after) }
 {
     let mut body = [0u8; 4096];
     match lines::input::take(input, &mut body) {
         Taken::Record(kind, n) => answer_record(to, before, kind, &body[..n]),
-        Taken::Cut => Step {
-            state: before,
-            more: line::cut(to),
-        },
-        Taken::End => Step {
-            state: before,
-            more: false,
-        },
+        Taken::Cut => {
+            line::cut(to);
+            None
+        }
+        Taken::End => None,
     }
 }
 
-// A proved loop has to end, and nothing says that the input does: the turns are counted down from more than a run
-// takes.
+// A proved loop has to end, and nothing says that the input does: it has more turns than a run takes.
 fn main(rt: HostRuntime) {
     let mut input = rt.stdin();
     let mut to = rt.stdout();
     let fresh = Receiver::fresh(0, 0, 0);
     let receiver = fresh.receiver;
     let bookings = Bookings::fresh();
-    let mut step = Step {
-        state: State { receiver, bookings },
-        more: true,
-    };
-    let mut turns = u64::MAX;
-    while 0 < turns && step.more {
-        let before = step.state;
-        step = next(&mut input, &mut to, before);
-        turns -= 1;
+    let mut state = State { receiver, bookings };
+    for _ in 0..u64::MAX {
+        let Some(after) = next(&mut input, &mut to, state) else {
+            return;
+        };
+        state = after;
     }
 }

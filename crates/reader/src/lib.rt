@@ -14,6 +14,7 @@ pub struct Reader<'a> {
 
 // A step from a position: fault 0, a number, and the position after it. A refusal has its fault number, no number (0),
 // and the position as it was.
+// Kept: fault and value are the C interface's.
 #[repr(C)]
 #[derive(Clone, Copy)]
 pub struct Step {

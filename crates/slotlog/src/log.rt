@@ -6,7 +6,6 @@ ghost use Rattle.slotlog.specs.Log.{is_first, begun_by, begun};
 ghost use Rattle.receiver.specs.Reached.{Reached};
 
 use crate::room::to_start;
-use bits::least;
 use blocks::fault::Fault;
 use blocks::sizes::{SchF, SchH, SchS};
 use receiver::Receiver;
@@ -162,7 +161,7 @@ impl Begun {
         ensures inside { (begun_by (take have room.old)).took ≤ have }
         ensures moved { room.new ≡ moved_up have (begun_by (take have room.old)).took room.old }
     {
-        let n = least(have, room.len());
+        let n = have.min(room.len());
         let log = &room[..n];
         let took = first_bytes(log);
         let begun = begin(log);

@@ -8,7 +8,6 @@ ghost use Rattle.slotlog.specs.Runs.{state_of, has_room, One, Ran};
 use crate::print::shown_line;
 use crate::replies::{Shown, next};
 use crate::room::to_start;
-use bits::least;
 use receiver::Receiver;
 
 // The state of a run.
@@ -97,7 +96,7 @@ impl Run {
         ensures inside { result.read ≤ have }
         ensures moved { room.new ≡ moved_up have result.read room.old }
     {
-        let n = least(have, room.len());
+        let n = have.min(room.len());
         let r = Run::over(receiver, &room[..n], out);
         to_start(room, r.read, n);
         r

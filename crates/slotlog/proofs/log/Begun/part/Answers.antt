@@ -9,19 +9,19 @@ use Rattle.slotlog.proofs.log.Begun.part.Goals as goal
 
 pub returns-clause-begun : goal.returns-clause-begun
 returns-clause-begun c =
-    let u = in_use c.args.have c.least-n.result c.args.room.now c.least-n.ensures in
+    let u = in_use c.args.have c.min-n.result c.args.room.now c.min-n.ensures in
     rw (← u.0) c.begin-begun.ensures.begun
 
 pub returns-clause-inside : goal.returns-clause-inside
 returns-clause-inside c =
-    let u = in_use c.args.have c.least-n.result c.args.room.now c.least-n.ensures in
+    let u = in_use c.args.have c.min-n.result c.args.room.now c.min-n.ensures in
     let f = c.first_bytes-took.ensures in
     rw (← u.0, ← f.bytes) (omega (arith, u.1, u.3, f.inside))
 
 pub returns-clause-moved : goal.returns-clause-moved
 returns-clause-moved c =
     let a = c.args in
-    let l = c.least-n in
+    let l = c.min-n in
     let u = in_use a.have l.result a.room.now l.ensures in
     let f = c.first_bytes-took.ensures in
     let h : c.first_bytes-took.result ≤ l.result = omega (arith, f.inside, u.3) in
