@@ -16,7 +16,9 @@ use Rattle.lines.specs.Lines.{from_body, kind_text, unknown_line, Stands, Says}
 module _ {F : Type 0} (g : Calls F) (f : F) (text : List ℕ → List ℕ → List ℕ) where
   -- what a build puts into a line is this text of its body and its output
   abbrev pub Puts : Type 0
-  Puts = (body out old new : List ℕ) (n : ℕ) → 35 ≤ length body → Lent g f body out old n new → Stands old (text body out) new n
+  Puts =
+      (body out old new : List ℕ) (n : ℕ) → 35 ≤ length body → Lent g f body out old n new
+      → Stands old (text body out) new n
 
   stands : (old new body out : List ℕ) (r : answer.Option ℕ) → Puts → 35 ≤ length body
       → IsSomeAnd r (λ n. Lent g f body out old n new) → Says old (from_body true (text body out)) new r
@@ -31,13 +33,16 @@ module _ {F : Type 0} (g : Calls F) (f : F) (text : List ℕ → List ℕ → Li
         → IsSomeAnd r (λ n. Lent g f body (replicate (two_at body 33) 90) old n new))
         → Puts
         → Says old
-        (from_body (leb 35 (length body)) (cond (leb (two_at body 33) 1024) (text body (replicate (two_at body 33) 90)) kind_text))
+        (from_body (leb 35 (length body))
+        (cond (leb (two_at body 33) 1024) (text body (replicate (two_at body 33) 90)) kind_text))
         new r
     build_told short unknown lent puts = by_tests (leb 35 (length body)) (leb (two_at body 33) 1024) refl refl
       where
         by_tests : (a b : Bool) → leb 35 (length body) ≡ a → leb (two_at body 33) 1024 ≡ b
             → Says old (from_body a (cond b (text body (replicate (two_at body 33) 90)) kind_text)) new r
-        by_tests true true p q = stands old new body _ r puts (leb-true 35 (length body) p) (lent (leb-true 35 (length body) p) (leb-true (two_at body 33) 1024 q))
+        by_tests true true p q =
+            let long = leb-true 35 (length body) p in
+            stands old new body _ r puts long (lent long (leb-true (two_at body 33) 1024 q))
         by_tests true false p q = unknown (leb-true 35 (length body) p) (leb-false (two_at body 33) 1024 q)
         by_tests false true p q = short (leb-false 35 (length body) p)
         by_tests false false p q = short (leb-false 35 (length body) p)

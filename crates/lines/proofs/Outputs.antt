@@ -60,8 +60,9 @@ unfolding shown_of
 wrote_shown old at n s e u v h g =
     rw (← e)
     (wrote_both old at (32 ∷ hex_text (take n s)) _
-    (wrote_both old at (32 ∷ []) (hex_text (take n s)) (wrote_more old at [] 32 (wrote_none old at) h) u (omega arith)) v
-    g)
+    (wrote_both old at (32 ∷ []) (hex_text (take n s)) (wrote_more old at [] 32 (wrote_none old at) h) u
+    (omega arith))
+    v g)
 
 -- ---- a lent output is the start of a longer run of the same bytes
 

@@ -10,6 +10,7 @@ use Rattle.lines.specs.declared.input.Taken.TheVariants.{Record, Cut, End}
 -- body; at the end nothing.
 abbrev pub Took : Option (List ℕ) → Option (List ℕ) → Taken → List ℕ → Type 0
 Took old new (Record kind n) body =
-    (head : List ℕ) × (length head ≡ 4) × (two_at head 0 ≡ n + 2) × (two_at head 2 ≡ kind) × Consumes old new (head ++ take n body)
+    (head : List ℕ) × (length head ≡ 4) × (two_at head 0 ≡ n + 2) × (two_at head 2 ≡ kind)
+    × Consumes old new (head ++ take n body)
 Took old new Cut body = (bs : List ℕ) × Consumes old new bs
 Took old new End body = Consumes old new []

@@ -47,7 +47,7 @@ fn hex(out: &mut [u8], at: usize, s: &[u8]) -> usize
     ensures { Wrote out.old at (hex_text s.now) out.new result
         × (result ≤ at + 2 * length s.now + 1) }
 {
-    if s.len() == 0 {
+    if s.is_empty() {
         out[at] = b'-';
         return at + 1;
     }
@@ -128,8 +128,8 @@ pub fn unknown(out: &mut [u8]) -> Option<usize>
 // The most bytes that a call is lent for its output.
 const LENT: usize = 1024;
 
-// The line of a build: `built` puts it together from the body, and is lent an output that is as long as the body says at
-// place 33, each byte as before a call. Above 1,024 bytes it is of a kind that there is not.
+// The line of a build: `built` puts it together from the body, and is lent an output that is as long as the body says
+// at place 33, each byte as before a call. Above 1,024 bytes it is of a kind that there is not.
 pub fn line_of_build<F: FnOnce(&[u8], &mut [u8], &mut [u8]) -> usize>(
     body: &[u8],
     line: &mut [u8],

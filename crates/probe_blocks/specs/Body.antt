@@ -7,7 +7,8 @@ use Rattle.blocks.specs.declared.sync.Sync.{Sync}
 use Rattle.blocks.specs.declared.header.Fields.{Fields}
 
 abbrev pub sync_in : List ℕ → Sync
-sync_in body = record { system = get_or body 0 0; usage = get_or body 1 0; slot = get_or body 2 0; frame = get_or body 3 0 }
+sync_in body =
+    record { system = get_or body 0 0; usage = get_or body 1 0; slot = get_or body 2 0; frame = get_or body 3 0 }
 
 unfoldable pub fields_in : List ℕ → Fields
 fields_in body =

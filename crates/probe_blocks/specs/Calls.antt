@@ -86,7 +86,8 @@ block_line body = some (block_text (read_continuation body))
 
 -- X, F and i.
 unfoldable pub frame_line : List ℕ → Option (List ℕ)
-frame_line body = from_body (leb 3 (length body)) (frame_text (due_of (get_or body 0 0) (get_or body 1 0) (get_or body 2 0)))
+frame_line body =
+    from_body (leb 3 (length body)) (frame_text (due_of (get_or body 0 0) (get_or body 1 0) (get_or body 2 0)))
 
 -- By the record's kind.
 unfoldable pub record_line : ℕ → List ℕ → Option (List ℕ)

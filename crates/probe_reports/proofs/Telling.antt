@@ -68,7 +68,8 @@ module _ (before : Receiver) (old body : List ℕ) where
   unfolding ReportTells
   report_short h = rw (lt-leb 5 (length body) h) (refl, refl)
 
-  pub report_kind : (new : List ℕ) (x : Option ℕ) → 5 ≤ length body → 1024 < buffer_in body → Says old unknown_line new x
+  pub report_kind : (new : List ℕ) (x : Option ℕ) → 5 ≤ length body → 1024 < buffer_in body
+      → Says old unknown_line new x
       → ReportTells before body old new (record { state = before; line = x })
   unfolding ReportTells
   report_kind new x h g w = rw (le-leb 5 (length body) h, lt-leb (buffer_in body) 1024 g) (w, refl)

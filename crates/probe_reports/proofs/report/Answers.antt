@@ -1,6 +1,5 @@
 use mathlib.Core.Path.{◌∙◌}
 use native.Mathlib.Omega.{arith}
-use lib.ListN.{length-take, length-replicate}
 use Rattle.probe_reports.proofs.Telling.{report_short, report_kind, report_said}
 use Rattle.probe_reports.proofs.report.Goals as goal
 
@@ -17,14 +16,6 @@ returns-then-lent-gt1024 c =
       report_kind a.before a.line.now a.body.now _ c.unknown.result (omega arith)
           (omega arith) c.unknown.ensures,
     )
-
-pub slice_bounds-heard-end : goal.slice_bounds-heard-end
-slice_bounds-heard-end c = simp (length-take, length-replicate) (omega arith)
-
-pub heard-requires : goal.heard-requires
-heard-requires c =
-    let p = c.requires in
-    (p.0, omega arith, simp (length-take, length-replicate) (omega arith), omega (arith, p.1))
 
 pub returns : goal.returns
 returns c =

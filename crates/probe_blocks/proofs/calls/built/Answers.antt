@@ -7,19 +7,16 @@ use Rattle.probe_blocks.proofs.calls.built.Goals as goal
 
 pub build-requires : goal.build-requires
 build-requires c =
-    let a =
-    c.args in
+    let a = c.args in
     let k = c.build-b in
     let w : written_by k.result ≤ length a.out.now = rw k.ensures.0 (written_inside _ _ _ _ _ _) in
     (omega (arith, k.auto), omega (arith, k.auto), omega arith)
 
 pub returns : goal.returns
 returns c =
-    let a =
-    c.args in
+    let a = c.args in
     let k = c.build-b in
-    built_said a.body.now
-    c.requires.0 a.line.now a.out.now
+    built_said a.line.now a.body.now a.out.now
     c.sync-sync.ensures
     c.fields-fields.ensures
     c.four-n.ensures
