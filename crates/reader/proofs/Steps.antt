@@ -1,5 +1,5 @@
 -- A step from a position: when it is refused, and where it leads.
-use mathlib.Core.Path.{◌≡◌, refl, ap, ap₂, ◌∙◌}
+use mathlib.Core.Path.{◌≡◌, refl, sym, ap, ap₂, ◌∙◌}
 use mathlib.Core.Bool.{Bool, true, false, cond}
 use mathlib.Core.List.{List}
 use Prim.Native.Nat.{ℕ, ◌+◌, ◌^◌, ◌<◌, ◌≤◌}
@@ -8,11 +8,29 @@ use native.Mathlib.Omega.{arith}
 use lib.Dec.{ltb}
 use lib.ListN.{drop}
 use lib.Pow.{pow_pos}
-use borrow.Author.Tests.{ltb-false}
-use Rattle.bits.specs.Bits.{num, bits_of}
+use borrow.Author.Tests.{ltb-false, lt-ltb, le-ltb}
+use Rattle.bits.specs.Bits.{num, bits_of, field}
 use Rattle.bits.proofs.Numbers.{num_take_lt}
-use Rattle.reader.specs.Reading.{left_of, refused_at, made_to, skipped_at, taken_at, Taken, answer_of, number_answer}
+use Rattle.reader.specs.Reading.{left_of, refused_at, made_to, past, skipped_at, taken_at}
+use Rattle.reader.specs.Reading.{Taken, answer_of, number_answer}
 use Rattle.reader.specs.declared.Step.{Step}
+
+-- Fewer bits are left.
+pub too_far : (s : List ℕ) (at n v : ℕ) {l : ℕ} → l ≡ left_of s at → l < n → refused_at 1 at ≡ past s at n v
+too_far s at n v e h = rw (sym e, lt-ltb _ _ h) refl
+
+-- As many are left.
+pub near : (s : List ℕ) (at n v : ℕ) {l : ℕ} → l ≡ left_of s at → n ≤ l → made_to v (at + n) ≡ past s at n v
+near s at n v e h = rw (sym e, le-ltb _ _ h) refl
+
+-- A width that one take has, and one that it has not.
+pub narrow : (s : List ℕ) (at w : ℕ) → w ≤ 56 → past s at w (field at w (bits_of s)) ≡ taken_at s at w
+unfolding taken_at
+narrow s at w h = rw (le-ltb _ _ h) refl
+
+pub wide : (s : List ℕ) (at w : ℕ) → 56 < w → refused_at 13 at ≡ taken_at s at w
+unfolding taken_at
+wide s at w h = rw (lt-ltb _ _ h) refl
 
 -- A step that was made: as many bits were left.
 pub there : (s : List ℕ) (at n : ℕ) {v to : ℕ} → made_to v to ≡ skipped_at s at n → n ≤ left_of s at
