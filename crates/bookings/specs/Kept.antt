@@ -1,5 +1,5 @@
 -- The record that is kept, as a function of the list of transfers.
-use Rattle.std.specs.Prelude.{◌≡◌, Bool, true, false, cond, List, [], ◌∷◌, ◌++◌, map, ℕ, ◌+◌, ◌*◌, ◌<◌, ◌^◌, min, eqb, length, take, replicate}
+use Rattle.std.specs.Prelude.{◌≡◌, Bool, true, false, cond, List, [], ◌∷◌, ◌++◌, map, ℕ, ◌+◌, ◌*◌, ◌<◌, ◌^◌, min, eqb, length, take, replicate, Option, Some, None}
 use Rattle.history.specs.Line.{Line, Every}
 use Rattle.bookings.specs.Pairs.{Pair, booked}
 use Rattle.bookings.specs.declared.Bookings.{Bookings}
@@ -46,9 +46,10 @@ pub record Entered : Type 0 where
   pub bookings : Bookings
   pub mark : ℕ
 
--- The record afterwards, by whether it is booked.
-abbrev pub entered : Bool → Bookings → Entered
-entered booked b = record { bookings = b; mark = cond booked 1 2 }
+-- The record with a number more in it; or none, where the number was in the record b.
+abbrev pub entered : Bookings → Option Bookings → Entered
+entered b (Some c) = record { bookings = c; mark = 1 }
+entered b None = record { bookings = b; mark = 2 }
 
 -- A number entered: it is booked, mark 1; or it is there, nothing moves, and the mark is 2.
 abbrev pub entered_as : (again : Bool) → Bookings → ℕ → Entered

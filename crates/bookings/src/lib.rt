@@ -63,19 +63,33 @@ impl Bookings {
         }
     }
 
-    // Enters a transfer's pair, unless it is there: in front, and the oldest goes out. Whether it was entered.
-    fn enter(&mut self, source: u32, reference: u8) -> bool
-        requires { (self.old.count ≤ 32) × (source < 2 ^ 24) }
-        ensures { entered result self.new ≡ entered_in self.old (source * 256 + reference) }
+    // Enters a transfer's pair, unless it is there: in front, and the oldest goes out.
+    fn enter(self, source: u32, reference: u8) -> Option<Bookings>
+        requires { (self.count ≤ 32) × (source < 2 ^ 24) }
+        ensures { entered self result ≡ entered_in self (source * 256 + reference) }
     {
         let pair = source * 256 + u32::from(reference);
         if self.pairs[..self.count].contains(&pair) {
-            return false;
+            return None;
         }
-        self.pairs.copy_within(..31, 1);
-        self.pairs[0] = pair;
-        self.count = usize::min(self.count + 1, 32);
-        true
+        let mut bookings = self;
+        bookings.pairs.copy_within(..31, 1);
+        bookings.pairs[0] = pair;
+        bookings.count = usize::min(self.count + 1, 32);
+        Some(bookings)
+    }
+
+    // This record after a call that read this, with its mark.
+    fn reply(self, mark: Mark, transport: Transport) -> Reply
+        ensures { result ≡ reply_of self (number_of mark) transport }
+    {
+        Reply {
+            bookings: self,
+            booked: Booked {
+                mark: mark as u8,
+                transport,
+            },
+        }
     }
 
     // Reads a DM-SDU, n bits of it, and books it if it is a transfer whose pair is not there. A refused message and one
@@ -86,20 +100,12 @@ impl Bookings {
         ensures { Reached result.bookings × Books self (lent fields n sdu.now) result }
     {
         let transport = reading(fields, n, sdu);
-        let mut bookings = self;
-        let mark = if transport.fault != 0 || transport.message.kind != 1 {
-            Mark::Nothing
-        } else if bookings.enter(fields.source.ssi, transport.message.reference) {
-            Mark::Booked
-        } else {
-            Mark::Again
-        };
-        Reply {
-            bookings,
-            booked: Booked {
-                mark: mark as u8,
-                transport,
-            },
+        if transport.fault != 0 || transport.message.kind != 1 {
+            return self.reply(Mark::Nothing, transport);
+        }
+        match self.enter(fields.source.ssi, transport.message.reference) {
+            Some(bookings) => bookings.reply(Mark::Booked, transport),
+            None => self.reply(Mark::Again, transport),
         }
     }
 }
