@@ -9,10 +9,9 @@ use Rattle.transport.specs.Reading.{read_of, refused_transport}
 use Rattle.transport.specs.declared.Transport.{Transport}
 use Rattle.history.specs.Line.{Line, ◌▸◌}
 use Rattle.bookings.specs.Pairs.{Pair}
-use Rattle.bookings.specs.Kept.{number, InRange, Leads, Reached, entered_in}
-use Rattle.bookings.specs.Book.{Lent, reading_of, is_transfer, Transfer, pair_of, Enters, Books}
+use Rattle.bookings.specs.Kept.{Entered, number, InRange, Leads, Reached, entered_in}
+use Rattle.bookings.specs.Book.{Lent, reading_of, is_transfer, Transfer, pair_of, reply_of, Enters, Books}
 use Rattle.bookings.specs.declared.Bookings.{Bookings}
-use Rattle.bookings.specs.declared.Entered.{Entered}
 use Rattle.bookings.specs.declared.Reply.{Reply}
 use Rattle.bookings.proofs.PairLaws.{not_both}
 use Rattle.bookings.proofs.KeptLaws.{entered_leads, entered_marks}
@@ -49,9 +48,6 @@ pub is_transfer_lem : (l : Lent) (t : Transport) → t ≡ reading_of l → t.fa
 is_transfer_lem l t e f k = rw (sym e, eq-eqb t.fault 0 f, eq-eqb t.message.kind 1 k) refl
 
 -- ---- the reply
-
-abbrev reply_of : Bookings → ℕ → Transport → Reply
-reply_of b m t = record { bookings = b; booked = record { mark = m; transport = t } }
 
 -- nothing to book
 pub other_books : (b : Bookings) (l : Lent) (t : Transport) → Reached b → t ≡ reading_of l → is_transfer l ≡ false

@@ -12,9 +12,8 @@ use borrow.Author.Tests.{eqb-true, eqb-false}
 use Rattle.history.specs.Line.{Line, start, ◌▸◌, Every}
 use Rattle.bookings.specs.Pairs.{Pair, same, among, last32, entering, booked, IsAgain, IsBooked}
 use Rattle.bookings.specs.Kept.{number, record_of, bookings_at, InRange, Leads, is_in, pushed, entered_as}
-use Rattle.bookings.specs.Kept.{entered_in}
+use Rattle.bookings.specs.Kept.{Entered, entered, entered_in}
 use Rattle.bookings.specs.declared.Bookings.{Bookings}
-use Rattle.bookings.specs.declared.Entered.{Entered}
 use Rattle.bookings.proofs.PairLaws.{same_true, same_is, not_both, among_true, among_false}
 
 -- ---- a pair's number says which it is

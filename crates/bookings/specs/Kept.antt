@@ -3,7 +3,6 @@ use Rattle.std.specs.Prelude.{◌≡◌, Bool, true, false, cond, List, [], ◌�
 use Rattle.history.specs.Line.{Line, Every}
 use Rattle.bookings.specs.Pairs.{Pair, booked}
 use Rattle.bookings.specs.declared.Bookings.{Bookings}
-use Rattle.bookings.specs.declared.Entered.{Entered}
 
 -- A pair as one number.
 abbrev pub number : Pair → ℕ
@@ -41,6 +40,15 @@ is_in x (y ∷ ys) = cond (eqb y x) true (is_in x ys)
 -- A number put in front of the record: the oldest goes out.
 abbrev pub pushed : ℕ → Bookings → Bookings
 pushed x b = record { count = min 32 (b.count + 1); pairs = x ∷ take 31 b.pairs }
+
+-- The record after a transfer, and the mark: 1 booked, 2 again.
+pub record Entered : Type 0 where
+  pub bookings : Bookings
+  pub mark : ℕ
+
+-- The record afterwards, by whether it is booked.
+abbrev pub entered : Bool → Bookings → Entered
+entered booked b = record { bookings = b; mark = cond booked 1 2 }
 
 -- A number entered: it is booked, mark 1; or it is there, nothing moves, and the mark is 2.
 abbrev pub entered_as : (again : Bool) → Bookings → ℕ → Entered

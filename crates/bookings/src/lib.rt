@@ -1,10 +1,10 @@
 // The index of the last 32 booked pairs of source address and message reference.
 #![tactic(auto)]
 
-ghost use Rattle.std.specs.Prelude.{◌≡◌, ◌∷◌, ◌+◌, ◌*◌, ◌<◌, ◌≤◌, ◌^◌, length, take};
+ghost use Rattle.std.specs.Prelude.{◌≡◌, ◌+◌, ◌*◌, ◌<◌, ◌≤◌, ◌^◌};
 ghost use Rattle.history.specs.Line.{start};
-ghost use Rattle.bookings.specs.Kept.{bookings_at, Reached, is_in, entered_in};
-ghost use Rattle.bookings.specs.Book.{lent, reading_of, Books};
+ghost use Rattle.bookings.specs.Kept.{bookings_at, Reached, entered, entered_in};
+ghost use Rattle.bookings.specs.Book.{lent, reading_of, number_of, reply_of, Books};
 
 use blocks::fault::Fault;
 use blocks::header::{Address, Fields};
@@ -34,41 +34,12 @@ pub struct Reply {
     pub booked: Booked,
 }
 
-// The record after a transfer, and the mark: 1 booked, 2 again.
+// A call's mark, by its number.
 #[derive(Clone, Copy)]
-struct Entered {
-    bookings: Bookings,
-    mark: u8,
-}
-
-// Whether a number is among the first `count` of these.
-fn is_in(pairs: &[u32], count: usize, pair: u32) -> bool
-    requires { count ≤ length pairs.now }
-    ensures { result ≡ is_in pair (take count pairs.now) }
-{
-    let mut i = 0;
-    while i < count {
-        if pairs[i] == pair {
-            return true;
-        }
-        i += 1;
-    }
-    false
-}
-
-// Puts a number in front: each of the others goes one place back, and the last goes out.
-fn push(pairs: &mut [u32], pair: u32)
-    requires { length pairs.old ≡ 32 }
-    ensures { pairs.new ≡ pair ∷ take 31 pairs.old }
-{
-    let mut moved = pair;
-    let mut i = 0;
-    while i < 32 {
-        let next = pairs[i];
-        pairs[i] = moved;
-        moved = next;
-        i += 1;
-    }
+enum Mark {
+    Nothing = 0,
+    Booked = 1,
+    Again = 2,
 }
 
 // What a call reads: a source of 2^24 or more is refused with 13.
@@ -78,7 +49,7 @@ fn reading(fields: Fields, n: usize, sdu: &[u8]) -> Transport
     if fields.source.ssi < Address::END {
         return transport::read(fields, n, sdu);
     }
-    transport::refused(Fault::RANGE)
+    transport::refused(Fault::Range.number())
 }
 
 impl Bookings {
@@ -92,29 +63,19 @@ impl Bookings {
         }
     }
 
-    // Enters a transfer's pair, unless it is there: in front, and the oldest goes out.
-    fn enter(self, source: u32, reference: u8) -> Entered
-        requires { (self.count ≤ 32) × (source < 2 ^ 24) }
-        ensures { result ≡ entered_in self (source * 256 + reference) }
+    // Enters a transfer's pair, unless it is there: in front, and the oldest goes out. Whether it was entered.
+    fn enter(&mut self, source: u32, reference: u8) -> bool
+        requires { (self.old.count ≤ 32) × (source < 2 ^ 24) }
+        ensures { entered result self.new ≡ entered_in self.old (source * 256 + reference) }
     {
-        let pair = source * 256 + reference as u32;
-        let mut pairs = self.pairs;
-        if is_in(&pairs, self.count, pair) {
-            return Entered {
-                bookings: self,
-                mark: 2,
-            };
+        let pair = source * 256 + u32::from(reference);
+        if self.pairs[..self.count].contains(&pair) {
+            return false;
         }
-        push(&mut pairs, pair);
-        if self.count < 32 {
-            let bookings = Bookings {
-                count: self.count + 1,
-                pairs,
-            };
-            return Entered { bookings, mark: 1 };
-        }
-        let bookings = Bookings { count: 32, pairs };
-        Entered { bookings, mark: 1 }
+        self.pairs.copy_within(..31, 1);
+        self.pairs[0] = pair;
+        self.count = usize::min(self.count + 1, 32);
+        true
     }
 
     // Reads a DM-SDU, n bits of it, and books it if it is a transfer whose pair is not there. A refused message and one
@@ -125,24 +86,18 @@ impl Bookings {
         ensures { Reached result.bookings × Books self (lent fields n sdu.now) result }
     {
         let transport = reading(fields, n, sdu);
-        if transport.fault != 0 {
-            return Reply {
-                bookings: self,
-                booked: Booked { mark: 0, transport },
-            };
-        }
-        if transport.message.kind != 1 {
-            return Reply {
-                bookings: self,
-                booked: Booked { mark: 0, transport },
-            };
-        }
-        let e = self.enter(fields.source.ssi, transport.message.reference);
-        let bookings = e.bookings;
+        let mut bookings = self;
+        let mark = if transport.fault != 0 || transport.message.kind != 1 {
+            Mark::Nothing
+        } else if bookings.enter(fields.source.ssi, transport.message.reference) {
+            Mark::Booked
+        } else {
+            Mark::Again
+        };
         Reply {
             bookings,
             booked: Booked {
-                mark: e.mark,
+                mark: mark as u8,
                 transport,
             },
         }

@@ -1,3 +1,4 @@
+pub mod KindLaws
 pub mod ElementLaws
 pub mod RunLaws
 pub mod RuleLaws

@@ -1,17 +1,18 @@
 -- The laws of a build once its kind and its flags have passed, and of the whole. Assumes nothing.
 use mathlib.Core.Path.{◌≡◌, refl, sym, ap, ap₂, ◌∙◌}
-use mathlib.Core.Bool.{Bool}
-use mathlib.Core.List.{List, ◌++◌}
-use Prim.Native.Nat.{ℕ, zero, suc, ◌+◌, ◌-◌, ◌*◌, ◌≤◌}
+use mathlib.Core.Bool.{Bool, true, false}
+use mathlib.Core.Logic.{◌⊎◌, inl, inr}
+use mathlib.Core.List.{List, [], ◌∷◌, ◌++◌}
+use Prim.Native.Nat.{ℕ, zero, suc, ◌+◌, ◌-◌, ◌*◌, ◌≤◌, ◌<◌}
 use native.Mathlib.Omega.{arith}
 use lib.Dec.{leb}
 use lib.ListN.{length, take, length-take}
-use borrow.Author.Tests.{leb-true}
+use borrow.Author.Tests.{leb-true, lt-leb}
 use Rattle.bits.specs.Bits.{bits_of}
 use Rattle.bits.specs.Layout.{pack, total, parts_with, AllFit, AllNarrow}
 use Rattle.bits.proofs.Bytes.{length_bits_of}
 use Rattle.store.specs.Store.{handed}
-use Rattle.blocks.specs.Faults.{first_of}
+use Rattle.blocks.specs.Faults.{unless, first_of}
 use Rattle.blocks.proofs.FaultLaws.{chain_none, chain_given}
 use Rattle.transport.proofs.RuleLaws.{kind_holds, flags_hold, fit_holds}
 use Rattle.transport.specs.Layouts.{ack_of, per, Shape, shape, layout, at}
@@ -155,6 +156,28 @@ module _ (ack flag n : ℕ) (m : Message) (user old : List ℕ) (k : Passed ack 
 
 -- ---- the whole
 
+-- a kind that is none of the four
+third : (t₁ t₂ : Bool) (n : ℕ) (ns : List ℕ) → first_of (unless t₁ (suc n) ∷ unless t₂ (suc n) ∷ suc n ∷ ns) ≡ suc n
+third false t₂ n ns = refl
+third true false n ns = refl
+third true true n ns = refl
+
+fourth : (t₁ t₂ t₃ : Bool) (n : ℕ) (ns : List ℕ)
+    → first_of (unless t₁ (suc n) ∷ unless t₂ (suc n) ∷ unless t₃ (suc n) ∷ suc n ∷ ns) ≡ suc n
+fourth false t₂ t₃ n ns = refl
+fourth true t₂ t₃ n ns = third t₂ t₃ n ns
+
+none_of_four : (carrier a kind least protocol : ℕ) (stored : Bool) → (kind ≡ 0) ⊎ (4 < kind)
+    → first_of (kind_rules carrier (a + 1) kind least protocol stored) ≡ 21
+none_of_four carrier a kind least protocol stored (inl e) =
+    rw (lt-leb (a + 1) kind (omega arith))
+    (third (leb 22 carrier) (leb carrier 24) 20
+    (unless (leb kind 4) 21 ∷ unless (leb least protocol) 21 ∷ unless stored 21 ∷ []))
+none_of_four carrier a kind least protocol stored (inr h) =
+    rw (lt-leb kind 4 h)
+    (fourth (leb 22 carrier) (leb carrier 24) (leb (a + 1) kind) 20
+    (unless (leb least protocol) 21 ∷ unless stored 21 ∷ []))
+
 module _ (carrier flag n : ℕ) (m : Message) (user old : List ℕ) {ack w kf : ℕ} {stored : Bool}
     (ea : ack ≡ ack_of carrier) (ew : w ≡ per m.kind 128 128 128 0)
     (es : stored ≡ stored_holds m.kind m.storage m.forward)
@@ -243,3 +266,13 @@ module _ (carrier flag n : ℕ) (m : Message) (user old : List ℕ) {ack w kf : 
           → (r ≡ sdu_of carrier flag m n (length user) (length old)) × (new ≡ out_of carrier flag m n user old)
       unfolding sdu_of out_of build_fault built_bits
       build_rest e₁ e₂ = rw past_flags (e₁ ∙ rw ea refl, e₂ ∙ rw ea refl)
+
+pub build_none : (carrier flag n : ℕ) (m : Message) (user old : List ℕ) → (m.kind ≡ 0) ⊎ (4 < m.kind)
+    → (record { fault = 21; bits = 0 } ≡ sdu_of carrier flag m n (length user) (length old))
+    × (old ≡ out_of carrier flag m n user old)
+build_none carrier flag n m user old h =
+    let a = ack_of carrier in
+    let w = per m.kind 128 128 128 0 in
+    let o = stored_holds m.kind m.storage m.forward in
+    build_kind carrier flag n m user old refl refl refl (sym (none_of_four carrier a m.kind w m.protocol o h))
+    (λ z. omega arith)

@@ -10,7 +10,9 @@ use lib.Seq.{take-take}
 use borrow.Author.Tests.{lt-ltb, le-ltb, le-leb, lt-leb, eq-eqb, leb-true, ltb-true, ltb-false}
 use Rattle.bits.specs.Bits.{bits_of, num, field}
 use Rattle.bits.proofs.Numbers.{take_of_drop}
-use Rattle.blocks.specs.Faults.{unless, first_of}
+use Rattle.std.proofs.Common.{rules}
+use Rattle.blocks.specs.Faults.{unless, first_of, number_of}
+use Rattle.blocks.specs.declared.fault.Fault.{Fault}
 use Rattle.blocks.proofs.FaultLaws.{chain_none, chain_given}
 use Rattle.transport.proofs.RuleLaws.{end_holds}
 use Rattle.fcs.specs.Annex.{fcs_of}
@@ -103,6 +105,10 @@ holds_short storage forward typed end n h =
 pub end_fits : (forward check : Bool) (fixed end flag n : ℕ) {fault : ℕ}
     → fault ≡ first_of (end_rules forward check fixed end flag n) → fault ≡ 0 → fixed ≤ end
 end_fits forward check fixed end flag n e z = (end_holds forward check fixed end flag n (sym e ∙ z)).fixed
+
+-- no fault has the number of none
+pub no_zero : (f : Fault) → number_of f ≡ 0 → ⊥
+no_zero f e = search rules
 
 -- a refusal, and a message that none of the rules refuses
 pub answered_refused : (f : ℕ) (r : Transport) → (f ≡ 0 → ⊥) → refused_transport f ≡ answered f r
@@ -346,17 +352,19 @@ module _ (carrier flag n : ℕ) (s : List ℕ) (h : n ≤ 8 * length s) {ack x�
     kind_with e z = given {fault = 21} (chain_none front rest e ∙ rw z refl)
 
     -- by what stands after the kind
-    module _ (e : first_of front ≡ 0) (k : kind ≡ 0 → ⊥) {forward check : Bool} {fault : ℕ}
+    module _ (e : first_of front ≡ 0) (k : 1 ≤ kind) {forward check : Bool} {fault : ℕ}
         (eh : forward ≡ forward_holds x.storage t.forward t.typed end n) (ec : check ≡ fcs_holds flag end all)
         (er : fault ≡ first_of (end_rules forward check t.next end flag n)) where
       last_is : first_of (front ++ rest) ≡ fault
-      last_is = chain_none front rest e ∙ rw (le-leb 1 kind (omega arith)) (sym (er ∙ rw (eh, ec) refl))
+      last_is = chain_none front rest e ∙ rw (le-leb 1 kind k) (sym (er ∙ rw (eh, ec) refl))
 
       pub last_refused : (fault ≡ 0 → ⊥) → refused_transport fault ≡ read_bits carrier flag all
       last_refused r = answered_refused fault message r ∙ given last_is
 
-      pub last_found : fault ≡ 0 → message ≡ read_bits carrier flag all
-      last_found z = given (last_is ∙ z)
+    pub last_found : first_of front ≡ 0 → 1 ≤ kind → {forward check : Bool}
+        → forward ≡ forward_holds x.storage t.forward t.typed end n → check ≡ fcs_holds flag end all
+        → first_of (end_rules forward check t.next end flag n) ≡ 0 → message ≡ read_bits carrier flag all
+    last_found e k eh ec z = given (last_is e k eh ec (sym z))
 
   pub front_refused : {fault : ℕ} → fault ≡ first_of front → (fault ≡ 0 → ⊥)
       → refused_transport fault ≡ read_bits carrier flag all

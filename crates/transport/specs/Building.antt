@@ -1,8 +1,9 @@
 -- Building a DM-SDU with one of the four messages, bit for bit, and what is refused.
-use Rattle.std.specs.Prelude.{◌≡◌, Bool, true, cond, ◌&&◌, List, [], ◌∷◌, ◌++◌, ℕ, zero, suc, ◌+◌, ◌-◌, ◌*◌, ◌^◌, ◌≤◌, eqb, leb, ltb, length, take}
+use Rattle.std.specs.Prelude.{◌≡◌, Bool, true, cond, ◌&&◌, List, [], ◌∷◌, ◌++◌, ℕ, zero, suc, ◌+◌, ◌-◌, ◌*◌, ◌^◌, ◌≤◌, eqb, leb, ltb, length, take, Result, Ok, Err}
 use Rattle.bits.specs.Bits.{bits_of}
 use Rattle.bits.specs.Layout.{Part, parts_with, pack, total, AllFit, AllNarrow}
-use Rattle.blocks.specs.Faults.{unless, first_of}
+use Rattle.blocks.specs.Faults.{unless, first_of, number_of}
+use Rattle.blocks.specs.declared.fault.Fault.{Fault}
 use Rattle.store.specs.Store.{handed}
 use Rattle.fcs.specs.Annex.{fcs_of}
 use Rattle.transport.specs.Layouts.{ack_of, per, forward_width, Shape, shape, layout, at}
@@ -160,6 +161,11 @@ pub record PutsSdu (ws vs user : List ℕ) (first n flag : ℕ) (out : List ℕ)
 abbrev pub built_as : ℕ → ℕ → Sdu
 built_as zero bits = record { fault = 0; bits = bits }
 built_as (suc f) bits = record { fault = suc f; bits = 0 }
+
+-- What a build's outcome comes to: the number of bits, or the fault.
+abbrev pub answer : Result ℕ Fault → Sdu
+answer (Ok bits) = record { fault = 0; bits = bits }
+answer (Err f) = record { fault = number_of f; bits = 0 }
 
 -- What is left of the rules when the kind and the flags have passed.
 abbrev pub fit_fault : ℕ → ℕ → Message → ℕ → ℕ → ℕ

@@ -1,7 +1,8 @@
 -- Reading a DM-SDU: which of the four messages it is, its elements and its user data, and what is refused.
-use Rattle.std.specs.Prelude.{Bool, true, cond, List, [], ◌∷◌, ℕ, zero, suc, ◌+◌, ◌-◌, ◌*◌, ◌%◌, eqb, leb, ltb, length, take}
+use Rattle.std.specs.Prelude.{Bool, true, cond, List, [], ◌∷◌, ℕ, zero, suc, ◌+◌, ◌-◌, ◌*◌, ◌%◌, eqb, leb, ltb, length, take, Result, Ok, Err}
 use Rattle.bits.specs.Bits.{bits_of, num, field}
-use Rattle.blocks.specs.Faults.{unless, first_of}
+use Rattle.blocks.specs.Faults.{unless, first_of, number_of}
+use Rattle.blocks.specs.declared.fault.Fault.{Fault}
 use Rattle.fcs.specs.Annex.{fcs_of}
 use Rattle.transport.specs.Layouts.{ack_of, per, Shape, at}
 use Rattle.transport.specs.Elements.{element_in, shape_of, end_in}
@@ -118,6 +119,11 @@ no_message =
 
 abbrev pub refused_transport : ℕ → Transport
 refused_transport fault = record { fault = fault; message = no_message; first = 0; bits = 0 }
+
+-- What a reading's outcome comes to: what was read, or the refusal.
+abbrev pub answer : Result Transport Fault → Transport
+answer (Ok r) = r
+answer (Err f) = refused_transport (number_of f)
 
 -- By its fault: the number and 0 for everything else, or the message.
 abbrev pub answered : ℕ → Transport → Transport

@@ -2,81 +2,65 @@
 ghost use Rattle.std.specs.Prelude.{◌≡◌, ◌++◌, ◌+◌, ◌*◌, ◌≤◌, length, take};
 ghost use Rattle.bits.specs.Bits.{bits_of, over, Inside};
 ghost use Rattle.bits.specs.Layout.{AllNarrow, parts_with, pack};
-ghost use Rattle.blocks.specs.Faults.{first_of};
+ghost use Rattle.blocks.specs.Faults.{first_of, refusal};
 ghost use Rattle.store.specs.Store.{handed};
-ghost use Rattle.transport.specs.Layouts.{per, shape, layout, at};
+ghost use Rattle.transport.specs.Kinds.{number};
+ghost use Rattle.transport.specs.Layouts.{shape, layout, at};
 ghost use Rattle.transport.specs.Building.{values_for, message_bits, stored_holds, kind_rules, flag_rules, most_for};
-ghost use Rattle.transport.specs.Building.{fit_rules, fits, checked, shape_for, data_at, PutsSdu, Passed};
-ghost use Rattle.transport.specs.Building.{fit_fault, frame_bits, built_as, out_as};
+ghost use Rattle.transport.specs.Building.{fit_rules, fits, checked, shape_for, data_at, PutsSdu, Passed, answer};
+ghost use Rattle.transport.specs.Building.{fit_fault, frame_bits, built_as, out_as, sdu_of, out_of};
 
-use crate::elements::{forward_width, per, width};
+use crate::Message;
+use crate::elements::{ack_of, forward_width};
+use crate::kinds::Kind;
 use crate::reading::direct_type;
-use crate::{Message, Sdu};
 use blocks::fault::Fault;
 
 // Whether a message's forward address type is one of direct mode's, where its storage is 1.
-pub(crate) fn stored_holds(kind: u8, storage: u8, forward: u8) -> bool
-    ensures { result ≡ stored_holds kind storage forward }
+fn stored_holds(kind: Kind, storage: u8, forward: u8) -> bool
+    ensures { result ≡ stored_holds (number kind) storage forward }
 {
-    if width(kind, storage, storage, 0, 0) != 1 {
-        return true;
-    }
-    direct_type(forward)
+    kind.per(storage, storage, 0, 0) != 1 || direct_type(forward)
 }
 
-// The first of the rules for 21 that these numbers break, 0 where they break none.
-pub(crate) fn kind_rules(
+// The rules for 21.
+fn kind_rules(
     carrier: u8,
     lowest: usize,
     kind: u8,
     least: u8,
     protocol: u8,
     stored: bool,
-) -> u8
-    ensures { result ≡ first_of (kind_rules carrier lowest kind least protocol stored) }
+) -> Result<(), Fault>
+    ensures { refusal result ≡ first_of (kind_rules carrier lowest kind least protocol stored) }
 {
-    if carrier < 22 {
-        return Fault::NOT_SDS_TL;
+    if carrier < 22
+        || 24 < carrier
+        || usize::from(kind) < lowest
+        || 4 < kind
+        || protocol < least
+        || !stored
+    {
+        return Err(Fault::NotSdsTl);
     }
-    if 24 < carrier {
-        return Fault::NOT_SDS_TL;
-    }
-    if (kind as usize) < lowest {
-        return Fault::NOT_SDS_TL;
-    }
-    if 4 < kind {
-        return Fault::NOT_SDS_TL;
-    }
-    if protocol < least {
-        return Fault::NOT_SDS_TL;
-    }
-    if stored { 0 } else { Fault::NOT_SDS_TL }
+    Ok(())
 }
 
-// 13 where a flag is above 1, user data are too many or not lent, else 0.
-pub(crate) fn flag_rules(
+// 13 where a flag is above 1, user data are too many or not lent.
+fn flag_rules(
     flag: u8,
     addressed: u8,
     storage: u8,
     n: usize,
     most: usize,
     lent: bool,
-) -> u8
-    ensures { result ≡ first_of (flag_rules flag addressed storage n most lent) }
+) -> Result<(), Fault>
+    ensures { refusal result ≡ first_of (flag_rules flag addressed storage n most lent) }
 {
-    if 1 < flag {
-        return Fault::RANGE;
+    if 1 < flag || 1 < addressed || 1 < storage || most < n || !lent {
+        return Err(Fault::Range);
     }
-    if 1 < addressed {
-        return Fault::RANGE;
-    }
-    if 1 < storage {
-        return Fault::RANGE;
-    }
-    if most < n {
-        return Fault::RANGE;
-    }
-    if lent { 0 } else { Fault::RANGE }
+    Ok(())
 }
 
 // How many bits user defined data 4 has at most.
@@ -85,103 +69,110 @@ fn most_for(ack: usize, flag: u8) -> usize
     ensures { result ≡ most_for ack flag }
 {
     if ack == 1 {
-        return 269 - 32 * (flag as usize);
+        return 269 - 32 * usize::from(flag);
     }
     2047
 }
 
-// 13 where user defined data 4 has too many bits or an element's number is too large, 1 where the output is too short,
-// else 0.
-fn fit_rules(length: usize, most: usize, fit: bool, enough: bool) -> u8
-    ensures { result ≡ first_of (fit_rules length most fit enough) }
+// 13 where user defined data 4 has too many bits or an element's number is too large, 1 where the output is too short.
+fn fit_rules(length: usize, most: usize, fit: bool, enough: bool) -> Result<(), Fault>
+    ensures { refusal result ≡ first_of (fit_rules length most fit enough) }
 {
-    if most < length {
-        return Fault::RANGE;
+    if most < length || !fit {
+        return Err(Fault::Range);
     }
-    if !fit {
-        return Fault::RANGE;
+    if !enough {
+        return Err(Fault::Length);
     }
-    if enough { 0 } else { Fault::LENGTH }
+    Ok(())
 }
 
-// The bits of a message's elements, from the protocol identifier or the status on.
-fn message_bits(kind: u8, storage: u8, forward: u8) -> usize
-    requires { storage ≤ 1 }
-    ensures { (result ≡ message_bits kind storage forward) × (result ≤ 88) }
-{
-    per(kind, 24, 32, 32, 16) + 8 * (storage as usize) + forward_width(forward)
+// What decides the widths of a message's elements: 1 in a DM-SDS ACK, the additional addressing flag, the kind, storage
+// and the forward address type.
+#[derive(Clone, Copy)]
+struct Shape {
+    ack: usize,
+    addressed: u8,
+    kind: Kind,
+    storage: u8,
+    forward: u8,
 }
 
-// Where user defined data 4 or a status begins.
-fn data_at(ack: usize, addressed: u8, kind: u8) -> usize
-    requires { (ack ≤ 1) × (addressed ≤ 1) }
-    ensures { (result ≡ data_at ack addressed kind) × (result ≤ 72) }
-{
-    3 * ack + 1 + 52 * (addressed as usize) + 4 + per(kind, 11, 11, 11, 0)
-}
+impl Shape {
+    // The bits of the message's elements, from the protocol identifier or the status on.
+    fn message_bits(self) -> usize
+        requires { self.storage ≤ 1 }
+        ensures { (result ≡ message_bits (number self.kind) self.storage self.forward) × (result ≤ 88) }
+    {
+        self.kind.per(24, 32, 32, 16) + 8 * usize::from(self.storage) + forward_width(self.forward)
+    }
 
-// The elements' widths, in order.
-fn widths_of(ack: usize, addressed: u8, kind: u8, storage: u8, forward: u8) -> [u8; 20]
-    requires { (ack ≤ 1) × (addressed ≤ 1) × (storage ≤ 1) }
-    ensures { result ≡ layout (shape ack addressed kind storage forward) }
-{
-    [
-        (4 * ack) as u8,
-        (1 - ack) as u8,
-        4 * addressed,
-        24 * addressed,
-        24 * addressed,
-        4,
-        width(kind, 11, 11, 11, 0),
-        width(kind, 8, 8, 8, 0),
-        width(kind, 4, 4, 4, 0),
-        width(kind, 2, 0, 0, 0),
-        width(kind, 1, 0, 0, 0),
-        width(kind, 0, 1, 0, 0),
-        width(kind, 0, 2, 4, 0),
-        width(kind, 1, 1, 0, 0),
-        width(kind, 0, 0, 0, 6),
-        width(kind, 0, 8, 8, 2),
-        8,
-        5 * storage,
-        3 * storage,
-        forward_width(forward) as u8,
-    ]
+    // Where user defined data 4 or a status begins.
+    fn data_at(self) -> usize
+        requires { (self.ack ≤ 1) × (self.addressed ≤ 1) }
+        ensures { (result ≡ data_at self.ack self.addressed (number self.kind)) × (result ≤ 72) }
+    {
+        3 * self.ack + 1 + 52 * usize::from(self.addressed) + 4 + self.kind.per(11, 11, 11, 0)
+    }
+
+    // The elements' widths, in order.
+    fn widths(self) -> [u8; 20]
+        requires { (self.ack ≤ 1) × (self.addressed ≤ 1) × (self.storage ≤ 1) }
+        ensures { result ≡ layout (shape self.ack self.addressed (number self.kind) self.storage self.forward) }
+    {
+        let kind = self.kind;
+        [
+            (4 * self.ack) as u8,
+            (1 - self.ack) as u8,
+            4 * self.addressed,
+            24 * self.addressed,
+            24 * self.addressed,
+            4,
+            kind.per(11, 11, 11, 0),
+            kind.per(8, 8, 8, 0),
+            kind.per(4, 4, 4, 0),
+            kind.per(2, 0, 0, 0),
+            kind.per(1, 0, 0, 0),
+            kind.per(0, 1, 0, 0),
+            kind.per(0, 2, 4, 0),
+            kind.per(1, 1, 0, 0),
+            kind.per(0, 0, 0, 6),
+            kind.per(0, 8, 8, 2),
+            8,
+            5 * self.storage,
+            3 * self.storage,
+            forward_width(self.forward) as u8,
+        ]
+    }
 }
 
 // The elements' values, in order.
-fn values_of(ack: usize, m: Message, length: usize) -> [u64; 20]
+fn values_of(ack: usize, kind: Kind, m: Message, length: usize) -> [u64; 20]
+    requires { number kind ≡ m.kind }
     ensures { result ≡ values_for ack m length }
 {
-    let kind = m.kind;
     [
         ack as u64,
-        m.addressed as u64,
-        m.addressed as u64,
-        m.mni as u64,
-        m.ssi as u64,
-        width(kind, 3, 3, 3, 4) as u64,
+        u64::from(m.addressed),
+        u64::from(m.addressed),
+        u64::from(m.mni),
+        u64::from(m.ssi),
+        kind.per(3, 3, 3, 4),
         length as u64,
-        m.protocol as u64,
-        width(kind, 0, 1, 2, 0) as u64,
-        m.request as u64,
-        m.short as u64,
-        m.required as u64,
+        u64::from(m.protocol),
+        kind.per(0, 1, 2, 0),
+        u64::from(m.request),
+        u64::from(m.short),
+        u64::from(m.required),
         0,
-        m.storage as u64,
-        width(kind, 0, 0, 0, 31) as u64,
-        m.status as u64,
-        m.reference as u64,
-        m.validity as u64,
-        m.forward as u64,
+        u64::from(m.storage),
+        kind.per(0, 0, 0, 31),
+        u64::from(m.status),
+        u64::from(m.reference),
+        u64::from(m.validity),
+        u64::from(m.forward),
         m.address,
     ]
-}
-
-fn index(x: u8) -> usize
-    ensures { result ≡ x }
-{
-    x as usize
 }
 
 // Whether each value fits its width of bits.
@@ -189,12 +180,10 @@ fn all_fit(widths: &[u8], values: &[u64]) -> bool
     requires { (length widths.now ≡ length values.now) × AllNarrow widths.now }
     ensures { result ≡ fits (parts_with widths.now values.now) }
 {
-    let mut i = 0;
-    while i < widths.len() {
-        if 1 << index(widths[i]) <= values[i] {
+    for (&w, &v) in widths.iter().zip(values) {
+        if 1 << w <= v {
             return false;
         }
-        i += 1;
     }
     true
 }
@@ -207,7 +196,7 @@ fn put_fcs(out: &mut [u8], end: usize, flag: u8)
 {
     if flag == 1 {
         let c = fcs::fcs_of(out, end);
-        bits::put(out, end, 32, c as u64);
+        bits::put(out, end, 32, u64::from(c));
     }
 }
 
@@ -232,43 +221,81 @@ fn put_sdu(
     bits::put_all(out, 0, widths, values);
     bits::copy(user, 0, out, first, n);
     put_fcs(out, first + n, flag);
-    let end = first + n + 32 * (flag as usize);
+    let end = first + n + 32 * usize::from(flag);
     bits::clear(out, end, (end + 7) / 8 * 8);
 }
 
 // What a build answers once its kind and its flags have passed, and what it writes.
-pub(crate) fn build_message(
+fn build_message(
     ack: usize,
+    flag: u8,
+    kind: Kind,
+    m: Message,
+    n: usize,
+    user: &[u8],
+    out: &mut [u8],
+) -> Result<usize, Fault>
+    requires passed { Passed ack flag m n (length user.now) }
+    requires kind { number kind ≡ m.kind }
+    ensures bits { answer result
+        ≡ built_as (fit_fault ack flag m n (length out.old)) (at 20 (shape_for ack m) + n + 32 * flag) }
+    ensures out { out.new
+        ≡ out_as (fit_fault ack flag m n (length out.old))
+        (checked flag (frame_bits ack m (take n (bits_of user.now)))) out.old }
+{
+    let shape = Shape {
+        ack,
+        addressed: m.addressed,
+        kind,
+        storage: m.storage,
+        forward: m.forward,
+    };
+    let from = shape.data_at();
+    let own = shape.message_bits();
+    let first = from + own;
+    let bits = first + n + 32 * usize::from(flag);
+    let length = kind.per(own + n, own + n, own + n, 0);
+    let widths = shape.widths();
+    let values = values_of(ack, kind, m, length);
+    fit_rules(
+        length,
+        most_for(ack, flag),
+        all_fit(&widths, &values),
+        bits::bits_lent(bits, out.len()),
+    )?;
+    put_sdu(&widths, &values, user, first, n, flag, out);
+    Ok(bits)
+}
+
+// What a build answers, and what it writes.
+pub(crate) fn build_checked(
+    carrier: u8,
     flag: u8,
     m: Message,
     n: usize,
     user: &[u8],
     out: &mut [u8],
-) -> Sdu
-    requires { Passed ack flag m n (length user.now) }
-    ensures { (result
-        ≡ built_as (fit_fault ack flag m n (length out.old)) (at 20 (shape_for ack m) + n + 32 * flag))
-        × (out.new
-        ≡ out_as (fit_fault ack flag m n (length out.old))
-        (checked flag (frame_bits ack m (take n (bits_of user.now)))) out.old) }
+) -> Result<usize, Fault>
+    ensures bits { answer result ≡ sdu_of carrier flag m n (length user.now) (length out.old) }
+    ensures out { out.new ≡ out_of carrier flag m n user.now out.old }
 {
-    let kind = m.kind;
-    let from = data_at(ack, m.addressed, kind);
-    let own = message_bits(kind, m.storage, m.forward);
-    let first = from + own;
-    let bits = first + n + 32 * (flag as usize);
-    let length = per(kind, own + n, own + n, own + n, 0);
-    let widths = widths_of(ack, m.addressed, kind, m.storage, m.forward);
-    let values = values_of(ack, m, length);
-    let fault = fit_rules(
-        length,
-        most_for(ack, flag),
-        all_fit(&widths, &values),
-        bits::bits_lent(bits, out.len()),
-    );
-    if fault != 0 {
-        return Sdu { fault, bits: 0 };
-    }
-    put_sdu(&widths, &values, user, first, n, flag, out);
-    Sdu { fault: 0, bits }
+    let ack = ack_of(carrier);
+    let kind = Kind::try_from(m.kind)?;
+    kind_rules(
+        carrier,
+        ack + 1,
+        m.kind,
+        kind.per(128, 128, 128, 0),
+        m.protocol,
+        stored_holds(kind, m.storage, m.forward),
+    )?;
+    flag_rules(
+        flag,
+        m.addressed,
+        m.storage,
+        n,
+        kind.per(2047, 2047, 0, 0),
+        bits::bits_lent(n, user.len()),
+    )?;
+    build_message(ack, flag, kind, m, n, user, out)
 }

@@ -1,55 +1,29 @@
 // The elements of a DM-SDU: how wide each is, and what stands in the first n of the lent bits.
 ghost use Rattle.std.specs.Prelude.{◌≡◌, ◌+◌, ◌*◌, ◌≤◌, length, take};
 ghost use Rattle.bits.specs.Bits.{bits_of};
-ghost use Rattle.transport.specs.Layouts.{ack_of, per, forward_width};
+ghost use Rattle.transport.specs.Kinds.{number};
+ghost use Rattle.transport.specs.Layouts.{ack_of, forward_width};
 ghost use Rattle.transport.specs.Runs.{cut, run_in, front_of, fixed_at, stored_at};
 
+use crate::kinds::Kind;
 use bits::least;
 
 // 1 for DM-SDS ACK.
 pub(crate) fn ack_of(carrier: u8) -> usize
     ensures { result ≡ ack_of carrier }
 {
-    if carrier == 24 { 1 } else { 0 }
-}
-
-// A number for each kind of message.
-pub(crate) fn per(kind: u8, transfer: usize, report: usize, ack: usize, short: usize) -> usize
-    ensures { result ≡ per kind transfer report ack short }
-{
-    if kind == 1 {
-        return transfer;
-    }
-    if kind == 2 {
-        return report;
-    }
-    if kind == 3 {
-        return ack;
-    }
-    if kind == 4 { short } else { 0 }
-}
-
-// The same, of numbers below 256: widths, mostly.
-pub(crate) fn width(kind: u8, transfer: u8, report: u8, ack: u8, short: u8) -> u8
-    ensures { result ≡ per kind transfer report ack short }
-{
-    per(
-        kind,
-        transfer as usize,
-        report as usize,
-        ack as usize,
-        short as usize,
-    ) as u8
+    usize::from(carrier == 24)
 }
 
 // The bits of a forward address, by its type.
 pub(crate) fn forward_width(forward: u8) -> usize
     ensures { result ≡ forward_width forward }
 {
-    if forward == 1 {
-        return 24;
+    match forward {
+        1 => 24,
+        2 => 48,
+        _ => 0,
     }
-    if forward == 2 { 48 } else { 0 }
 }
 
 // The `w` bits from bit `at` on as one number; those that are not among the first `n` are 0.
@@ -135,7 +109,7 @@ pub(crate) fn front_of(x: u64, ack: usize) -> Front
 
 // The elements that a message of this kind always has; `from` is where user defined data 4 or the status begins, `next`
 // the bit after the message reference.
-#[derive(Clone, Copy)]
+#[derive(Clone, Copy, Default)]
 pub(crate) struct Fixed {
     pub length: usize,
     pub from: usize,
@@ -164,69 +138,48 @@ fn storage_in(x: u64) -> u8
 }
 
 // Of x, the 47 bits from the short data type identifier on, which begins at bit `at`.
-pub(crate) fn fixed_at(at: usize, kind: u8, x: u64) -> Fixed
+#[tactic(auto, unfolding(crate::specs::Runs::fixed_at))]
+pub(crate) fn fixed_at(at: usize, kind: Kind, x: u64) -> Fixed
     requires { at ≤ 53 }
-    ensures { (result ≡ fixed_at at kind x)
+    ensures { (result ≡ fixed_at at (number kind) x)
         × (result.storage ≤ 1) × (result.length ≤ 2047) × (result.from ≤ at + 15) × (result.next ≤ at + 47) }
 {
-    let length = length_in(x);
-    let protocol = part8(x, 24, 8);
-    let storage = storage_in(x);
-    let higher = part8(x, 8, 8);
-    let lower = part8(x, 0, 8);
-    if kind == 1 {
-        return Fixed {
-            length,
-            from: at + 15,
-            protocol,
-            request: part8(x, 18, 2),
-            short: part8(x, 17, 1),
-            required: 0,
-            storage,
-            status: 0,
-            reference: higher,
-            next: at + 39,
-        };
-    }
-    if kind == 2 {
-        return Fixed {
-            length,
-            from: at + 15,
-            protocol,
-            request: 0,
-            short: 0,
-            required: part8(x, 19, 1),
-            storage,
-            status: higher,
-            reference: lower,
-            next: at + 47,
-        };
-    }
-    if kind == 3 {
-        return Fixed {
-            length,
-            from: at + 15,
-            protocol,
-            request: 0,
-            short: 0,
-            required: 0,
-            storage: 0,
-            status: higher,
-            reference: lower,
-            next: at + 47,
-        };
-    }
-    Fixed {
-        length: 0,
-        from: at + 4,
-        protocol: 0,
+    let fixed = Fixed {
+        length: length_in(x),
+        from: at + 15,
+        protocol: part8(x, 24, 8),
         request: 0,
         short: 0,
         required: 0,
-        storage: 0,
-        status: part8(x, 35, 2),
-        reference: part8(x, 27, 8),
-        next: at + 20,
+        storage: storage_in(x),
+        status: part8(x, 8, 8),
+        reference: part8(x, 0, 8),
+        next: at + 47,
+    };
+    match kind {
+        Kind::Transfer => Fixed {
+            request: part8(x, 18, 2),
+            short: part8(x, 17, 1),
+            status: 0,
+            reference: part8(x, 8, 8),
+            next: at + 39,
+            ..fixed
+        },
+        Kind::Report => Fixed {
+            required: part8(x, 19, 1),
+            ..fixed
+        },
+        Kind::Ack => Fixed {
+            storage: 0,
+            ..fixed
+        },
+        Kind::Short => Fixed {
+            from: at + 4,
+            status: part8(x, 35, 2),
+            reference: part8(x, 27, 8),
+            next: at + 20,
+            ..Fixed::default()
+        },
     }
 }
 

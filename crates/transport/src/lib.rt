@@ -4,13 +4,13 @@
 
 mod building;
 mod elements;
+mod kinds;
 mod reading;
 
 ghost use Rattle.std.specs.Prelude.{◌≡◌, length};
 ghost use Rattle.transport.specs.Building.{sdu_of, out_of};
 ghost use Rattle.transport.specs.Reading.{refused_transport, read_of};
 
-use blocks::fault::Fault;
 use blocks::header::Fields;
 
 // An SDS-TL message's elements; one that the message does not have is 0. `kind` is 1 SDS-TRANSFER, 2 SDS-REPORT, 3
@@ -18,7 +18,7 @@ use blocks::header::Fields;
 // is the delivery status, of a short report its type. `address` is the forward address as one number: SSI, or SSI times
 // 2^24 and the extension.
 #[repr(C)]
-#[derive(Clone, Copy)]
+#[derive(Clone, Copy, Default)]
 pub struct Message {
     pub kind: u8,
     pub addressed: u8,
@@ -59,25 +59,9 @@ pub struct Sdu {
 pub fn refused(fault: u8) -> Transport
     ensures { result ≡ refused_transport fault }
 {
-    let message = Message {
-        kind: 0,
-        addressed: 0,
-        mni: 0,
-        ssi: 0,
-        protocol: 0,
-        request: 0,
-        short: 0,
-        required: 0,
-        storage: 0,
-        status: 0,
-        reference: 0,
-        validity: 0,
-        forward: 0,
-        address: 0,
-    };
     Transport {
         fault,
-        message,
+        message: Message::default(),
         first: 0,
         bits: 0,
     }
@@ -87,10 +71,10 @@ pub fn refused(fault: u8) -> Transport
 pub fn read(fields: Fields, n: usize, sdu: &[u8]) -> Transport
     ensures { result ≡ read_of fields.message fields.elements n sdu.now }
 {
-    if !bits::bits_lent(n, sdu.len()) {
-        return refused(Fault::RANGE);
+    match crate::reading::read_lent(fields.message, fields.elements, n, sdu) {
+        Ok(transport) => transport,
+        Err(fault) => refused(fault.number()),
     }
-    crate::reading::read_bits(fields.message, (fields.elements % 2) as usize, n, sdu)
 }
 
 // Builds the DM-SDU of a message for this message type of the header and this FCS flag, with the first `n` bits of lent
@@ -99,29 +83,11 @@ pub fn build(carrier: u8, fcs: u8, message: Message, n: usize, user: &[u8], out:
     ensures { (result ≡ sdu_of carrier fcs message n (length user.now) (length out.old))
         × (out.new ≡ out_of carrier fcs message n user.now out.old) }
 {
-    let kind = message.kind;
-    let ack = crate::elements::ack_of(carrier);
-    let fault = crate::building::kind_rules(
-        carrier,
-        ack + 1,
-        kind,
-        crate::elements::width(kind, 128, 128, 128, 0),
-        message.protocol,
-        crate::building::stored_holds(kind, message.storage, message.forward),
-    );
-    if fault != 0 {
-        return Sdu { fault, bits: 0 };
+    match crate::building::build_checked(carrier, fcs, message, n, user, out) {
+        Ok(bits) => Sdu { fault: 0, bits },
+        Err(fault) => Sdu {
+            fault: fault.number(),
+            bits: 0,
+        },
     }
-    let fault = crate::building::flag_rules(
-        fcs,
-        message.addressed,
-        message.storage,
-        n,
-        crate::elements::per(kind, 2047, 2047, 0, 0),
-        bits::bits_lent(n, user.len()),
-    );
-    if fault != 0 {
-        return Sdu { fault, bits: 0 };
-    }
-    crate::building::build_message(ack, fcs, message, n, user, out)
 }

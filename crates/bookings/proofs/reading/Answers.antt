@@ -9,4 +9,4 @@ returns-then-fields-lt-END c = rw (lt-ltb _ (2 ^ 24) c.if-fields-lt-END.true) c.
 
 pub returns : goal.returns
 unfolding reading_of
-returns c = rw (le-ltb _ (2 ^ 24) c.if-fields-lt-END.false) c.refused.ensures
+returns c = rw (le-ltb _ (2 ^ 24) c.if-fields-lt-END.false, ← c.number.ensures) c.refused.ensures

@@ -9,8 +9,8 @@ pub returns-then-flag-eq1 : goal.returns-then-flag-eq1
 returns-then-flag-eq1 c =
     let a = c.args in
     c.put.ensures
-    ∙ fcs_put a.flag a.end c.fcs_of-c.result (bits_of a.out.now) c.if-flag-eq1.true
-    (omega (arith, length_bits_of a.out.now)) c.fcs_of-c.ensures
+    ∙ fcs_put a.flag a.end c.from.result (bits_of a.out.now) c.if-flag-eq1.true
+    (omega (arith, length_bits_of a.out.now)) (c.from.ensures ∙ c.fcs_of-c.ensures)
 
 pub returns-else-flag-eq1 : goal.returns-else-flag-eq1
 returns-else-flag-eq1 c =

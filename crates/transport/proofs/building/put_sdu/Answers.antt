@@ -18,6 +18,6 @@ returns c =
     sdu_put (pack ps) u a.first a.n a.flag a.out.now c.clear.new.out (length_pack ps ∙ k.elements)
     (length_sdu a.n a.user.now k.lent) k.flagged k.room (bits_of c.put_all.new.out)
     (bits_of c.copy.new.dst) (bits_of c.put_fcs.new.out) c.put_all.ensures c.copy.ensures
-    c.put_fcs.ensures c.clear.ensures
+    c.put_fcs.ensures (rw c.from.ensures at c.clear.ensures)
     (all_bytes a.out.now (λ j. search rules))
     (all_bytes c.clear.new.out (λ j. (c.type_inv.out j).fits))
