@@ -131,6 +131,7 @@ pub(crate) fn fill(s: &mut [u8], from: usize, to: usize) -> Result<Said, Untaken
 
 pub(crate) fn last_one(s: &[u8], from: usize, to: usize) -> Result<Said, Untaken> {
     held(s, from, to)?;
+    // Kept: `i as u64`, since `u64` is not made `From` a `usize`.
     Ok(match bits::last_one(s, from, to) {
         Some(i) => Said::Number(i as u64),
         None => Said::Nothing,

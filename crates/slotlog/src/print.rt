@@ -15,6 +15,7 @@ fn line(out: &mut [u8], at: usize, frame: u8, slot: u8, a: Answer) -> usize
     ensures few { result ≤ at + 128 }
 {
     let next = text::decimal(out, at, u64::from(frame));
+    // Kept: `a.bits as u64`, since `u64` is not made `From` a `usize`.
     let ns = [
         u64::from(slot),
         u64::from(a.outcome),
