@@ -29,7 +29,7 @@ pub(crate) struct NextReply {
 }
 
 // What a receiver answers to a report of the log; the message is not shown.
-// Kept: `Reached` stands in each contract, since a `Receiver` is a struct of the C interface, and C may fill its fields.
+// Kept: `Reached` stands in each contract, since a `Receiver` is a struct of the C interface, whose fields C may fill.
 fn hear(r: Receiver, frame: u8, slot: u8, kind: u8, blocks: &[u8]) -> Reply
     requires { Reached r }
     ensures { Answers r (lent frame slot kind blocks.now) result }

@@ -8,7 +8,8 @@ pub returns-in-0-clause-tells : goal.returns-in-0-clause-tells
 returns-in-0-clause-tells c =
     let a = c.args in
     let k = c.unit.ensures in
-    let e : c.kept.result ≡ with_receiver a.before c.unit.result = received a.before c.kept.ensures.state c.kept.ensures.line in
+    let e : c.kept.result ≡ with_receiver a.before c.unit.result =
+    received a.before c.kept.ensures.state c.kept.ensures.line in
     (tells_0 a.before c.requires.reached a.kind a.body.now a.line.now _ k.0 c.in-0.is k.1 e).1
 
 pub returns-in-4-clause-tells : goal.returns-in-4-clause-tells
@@ -22,25 +23,29 @@ returns-in-4-clause-tells c =
 pub returns-in-9-clause-tells : goal.returns-in-9-clause-tells
 returns-in-9-clause-tells c =
     let a = c.args in
-    (tells_9 a.before c.requires.reached a.kind a.body.now a.line.now _ c.read-line.result c.in-9.is c.read-line.ensures).1
+    (tells_9 a.before c.requires.reached a.kind a.body.now a.line.now _
+    c.read-line.result c.in-9.is c.read-line.ensures).1
 
 pub returns-in-10-clause-tells : goal.returns-in-10-clause-tells
 returns-in-10-clause-tells c =
     let a = c.args in
-    (tells_10 a.before c.requires.reached a.kind a.body.now a.line.now _ c.build-line.result c.in-10.is c.build-line.ensures).1
+    (tells_10 a.before c.requires.reached a.kind a.body.now a.line.now _
+    c.build-line.result c.in-10.is c.build-line.ensures).1
 
 pub returns-in-11-clause-tells : goal.returns-in-11-clause-tells
 returns-in-11-clause-tells c =
     let a = c.args in
     let k = c.fresh.ensures in
-    let e : c.kept-in-11.result ≡ with_bookings a.before c.fresh.result = booked a.before c.kept-in-11.ensures.state c.kept-in-11.ensures.line in
+    let e : c.kept-in-11.result ≡ with_bookings a.before c.fresh.result =
+    booked a.before c.kept-in-11.ensures.state c.kept-in-11.ensures.line in
     (tells_11 a.before c.requires.reached a.kind a.body.now a.line.now _ k.0 c.in-11.is k.1 e).1
 
 pub returns-in-12-clause-tells : goal.returns-in-12-clause-tells
 returns-in-12-clause-tells c =
     let a = c.args in
     let k = c.book.ensures in
-    let e : c.kept-in-12.result ≡ with_bookings a.before c.book.result = booked a.before c.kept-in-12.ensures.state c.kept-in-12.ensures.line in
+    let e : c.kept-in-12.result ≡ with_bookings a.before c.book.result =
+    booked a.before c.kept-in-12.ensures.state c.kept-in-12.ensures.line in
     (tells_12 a.before c.requires.reached a.kind a.body.now a.line.now _ k.0 c.in-12.is k.1 e).1
 
 pub returns-in_default-clause-tells : goal.returns-in_default-clause-tells
