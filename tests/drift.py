@@ -71,14 +71,14 @@ def try_on(copy):
     proved, said = check(copy, "demands")
     if proved:
         stop("the demands do not see the drifts")
-    seen = set(re.findall(r"^fn demands::(\w+): (?!proved)", said, re.M))
+    seen = set(re.findall(r"^fn demands::(?:\w+::)*(\w+): (?!proved)", said, re.M))
     asked = set().union(*(drift[-1] for drift in DRIFTS))
     if seen != asked:
         stop("refused are %s, and not %s:\n%s" % (", ".join(sorted(seen)), ", ".join(sorted(asked)), said[-3000:]))
-    for name in re.findall(r"^fn demands::(\w+): ", said, re.M):
+    for name in re.findall(r"^fn demands::(\w+)", said, re.M):  # a function, or the module of its type
         shutil.rmtree(path(copy, "demands", "proofs", name), ignore_errors=True)
     with open(path(copy, "demands", "src", "lib.rt"), "w", encoding="utf-8") as text:
-        text.write("// No function.\n#![tactic(auto)]\n")
+        text.write("// No function: the types alone.\n#![tactic(auto)]\n\nmod asked;\n")
     proved, said = check(copy, "demands")
     if not proved:
         stop("the demands are not proved without their functions:\n" + said[-3000:])

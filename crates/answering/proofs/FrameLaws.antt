@@ -4,6 +4,7 @@ use mathlib.Core.Bool.{Bool, true, false, cond, ◌&&◌}
 use Prim.Native.Nat.{ℕ, zero, suc, ◌+◌, ◌-◌, ◌≤◌}
 use native.Mathlib.Omega.{arith}
 use lib.Dec.{eqb, leb}
+use mir.Val.{bool_byte}
 use borrow.Author.Tests.{ne_eqb, eqb-false, le-leb, leb-true, leb-false}
 use Rattle.blocks.specs.Faults.{first_of}
 use Rattle.blocks.specs.Slots.{frames_to}
@@ -89,6 +90,11 @@ refused r zero e h = absurd (h refl)
 refused r (suc n) e h = rw (sym e) refl
 
 -- ---- its first frame
+
+-- a flag, as Rust makes a number of it
+pub flag_small : (b : Bool) → bool_byte b ≤ 1
+flag_small true = omega arith
+flag_small false = omega arith
 
 -- of a message with at most fifteen blocks
 pub frames_few : (x f i : ℕ) → f ≤ 3 → i ≤ 14 → frames_to x f i ≤ 19

@@ -10,7 +10,8 @@ use lib.ListN.{get_or, drop}
 use borrow.Author.Tests.{ne_eqb, lt-ltb, le-ltb, leb-true, leb-false}
 use Rattle.blocks.specs.Slots.{frame_number, passing, frames_to}
 use Rattle.blocks.proofs.SlotLaws.{Passes, passes, no_later, after_headers}
-use Rattle.answering.specs.Calendar.{yes, was_fragmented, last_frame, first_frame, header_at, end_at, headers, passed_over}
+use Rattle.answering.specs.Calendar.{yes, was_fragmented, last_frame, first_frame, header_at, end_at, headers}
+use Rattle.answering.specs.Calendar.{passed_over}
 use Rattle.answering.specs.Calendar.{has_end, ends, slots_from, slots, no_slot, Fits}
 use Rattle.answering.specs.Laid.{All, none, more}
 use Rattle.answering.specs.Laid.{counted, repeats, blocks, own_slots, Same, Before, InOrder, to_come}
@@ -89,7 +90,8 @@ come_append j (s ∷ a) b =
     go (eqb s.what 1 && (eqb s.slot 3 && ltb j s.from)) (come_append j a b)
   where
     go : (t : Bool) → to_come j (a ++ b) ≡ to_come j a + to_come j b
-        → cond t (suc (to_come j (a ++ b))) (to_come j (a ++ b)) ≡ cond t (suc (to_come j a)) (to_come j a) + to_come j b
+        → cond t (suc (to_come j (a ++ b))) (to_come j (a ++ b))
+        ≡ cond t (suc (to_come j a)) (to_come j a) + to_come j b
     go true e = omega arith
     go false e = e
 
@@ -287,7 +289,9 @@ module _ (r : Response) (f : Fits r) where
         in_order = all_ordered x k m over (has_end r) least one;
         slots = each x k m over (has_end r) least one (λ j slot n l e s. s) (inl refl);
         numbers = each x k m over (has_end r) least one (λ j slot n l e s. refl) refl;
-        frames = all_come x k m over (has_end r) least one (last_frame r) ∙ all_to_come x k m (last_frame r) (omega arith);
+        frames =
+            all_come x k m over (has_end r) least one (last_frame r)
+            ∙ all_to_come x k m (last_frame r) (omega arith);
         countdowns = all_countdowns x k m over (has_end r) least one;
         first = starts;
         fragmented = λ e. rw e ends_last;

@@ -1,14 +1,29 @@
 -- The calendar of a response (8.5.6.2 e to g): the slots in which it goes out, counted in frames from X, the frame in
 -- which a header of the answered message was heard.
-use Rattle.std.specs.Prelude.{◌≡◌, Bool, true, cond, ◌&&◌, ◌||◌, not, List, [], ◌∷◌, ◌++◌, ℕ, zero, suc, ◌+◌, ◌-◌, ◌≤◌, eqb, leb, length, drop, replicate}
+use Rattle.std.specs.Prelude.{◌≡◌, Bool, true, cond, ◌&&◌, ◌||◌, not, List, [], ◌∷◌, ◌++◌, ℕ, zero, suc, ◌+◌, ◌-◌}
+use Rattle.std.specs.Prelude.{◌≤◌, ◌<◌, eqb, leb, length, drop, replicate, Result, MatchResult}
 use Rattle.blocks.specs.Faults.{unless, first_of}
 use Rattle.blocks.specs.Slots.{frame_number, passing, frames_to}
+use Rattle.blocks.specs.declared.fault.Fault.{Fault}
+use Rattle.blocks.specs.declared.fault.Fault.TheVariants.{Range}
+use Rattle.answering.specs.declared.Answered.{Answered}
+use Rattle.answering.specs.declared.Answered.TheVariants.{Plain, Joined, Lost, Connect}
 use Rattle.answering.specs.declared.Response.{Response}
 use Rattle.answering.specs.declared.Slot.{Slot}
 use Rattle.answering.specs.declared.Calendar.{Calendar}
 
 -- ---- What is answered: 0, a plain message (e); 1, a joined one (f); 2, a lost DM-SDS DATA (f); 3, a plain DM-CONNECT,
 -- with a DM-CONNECT ACK (g). Of a flag, 0 is no and any other number yes.
+
+-- These numbers; any other is refused with 13.
+abbrev pub answer_number : Answered → ℕ
+answer_number Plain = 0
+answer_number Joined = 1
+answer_number Lost = 2
+answer_number Connect = 3
+
+abbrev pub Answers : ℕ → Result Answered Fault → Type 0
+Answers n r = MatchResult r (λ a. answer_number a ≡ n) (λ f. (f ≡ Range) × (3 < n))
 
 abbrev pub yes : ℕ → Bool
 yes flag = leb 1 flag
@@ -74,8 +89,8 @@ slots r = slots_from r.frame (first_frame r) r.frames (passed_over r.slot1) (has
 
 -- ---- The call.
 
--- It is refused in this order: 15, 13, 10. `most` is the limit for the number of frames, and `least` for the slot count.
--- Where DN210 is the limit it is 1 to 4: of more no number of frames is taken, and of 0 none fits.
+-- It is refused in this order: 15, 13, 10. `most` is the limit for the number of frames, and `least` for the slot
+-- count. Where DN210 is the limit it is 1 to 4: of more no number of frames is taken, and of 0 none fits.
 abbrev pub rules_of : (frame countdown answered count frames most least : ℕ) → List ℕ
 rules_of frame countdown answered count frames most least =
     unless (leb 1 frame) 15 ∷

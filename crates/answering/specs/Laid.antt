@@ -1,5 +1,6 @@
 -- What the slots of a response have to be (request 06), whatever way they are worked out.
-use Rattle.std.specs.Prelude.{◌≡◌, ◌⊎◌, true, false, cond, ◌&&◌, List, [], ◌∷◌, ◌++◌, ℕ, zero, suc, ◌+◌, ◌-◌, ◌≤◌, ◌<◌, eqb, ltb, get_or}
+use Rattle.std.specs.Prelude.{◌≡◌, ◌⊎◌, true, false, cond, ◌&&◌, List, [], ◌∷◌, ◌++◌, ℕ, zero, suc, ◌+◌, ◌-◌, ◌≤◌}
+use Rattle.std.specs.Prelude.{◌<◌, eqb, ltb, get_or}
 use Rattle.blocks.specs.Slots.{next_frame, frame_number, frames_to, due_frame}
 use Rattle.answering.specs.Calendar.{yes, was_fragmented, last_frame, first_frame, has_end, no_slot}
 use Rattle.answering.specs.declared.Response.{Response}

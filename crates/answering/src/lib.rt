@@ -2,48 +2,87 @@
 // frame in which a header of the answered message was heard.
 #![tactic(auto)]
 
-ghost use Rattle.std.specs.Prelude.{◌≡◌, suc, ◌+◌, ◌-◌, ◌*◌, ◌/◌, ◌%◌, ◌≤◌, ◌<◌};
-ghost use Rattle.blocks.specs.Faults.{first_of};
+ghost use Rattle.std.specs.Prelude.{◌≡◌, suc, ◌+◌, ◌-◌, ◌*◌, ◌/◌, ◌%◌, ◌≤◌, ◌<◌, IfOk};
+ghost use Rattle.blocks.specs.Faults.{first_of, refusal};
 ghost use Rattle.blocks.specs.Slots.{passing};
 ghost use Rattle.answering.specs.Calendar.{was_fragmented, least_of, limit_of, last_frame, first_frame, header_at};
-ghost use Rattle.answering.specs.Calendar.{end_at, passed_over, has_end, slots_from, rules_of, response_rules, Fits};
-ghost use Rattle.answering.specs.Calendar.{with_slots, calendar_of};
+ghost use Rattle.answering.specs.Calendar.{end_at, passed_over, has_end, slots_from, response_rules, Fits, with_slots};
+ghost use Rattle.answering.specs.Calendar.{answer_number, Answers, calendar_of};
 
 use blocks::fault::Fault;
 use blocks::slots::{frame_number, frames_to};
 
-// What a response answers.
-#[derive(Clone, Copy)]
-pub struct Answered {}
-
-impl Answered {
+// What a response answers, by the numbers that a response has for it.
+#[derive(Clone, Copy, PartialEq, Eq)]
+pub enum Answered {
     // An unfragmented message: e).
-    pub const PLAIN: u8 = 0;
+    Plain = 0,
 
     // A fragmented message that was joined: f).
-    pub const JOINED: u8 = 1;
+    Joined = 1,
 
     // A fragmented DM-SDS DATA that was lost on the way: f).
-    pub const LOST: u8 = 2;
+    Lost = 2,
 
     // An unfragmented DM-CONNECT, answered with a DM-CONNECT ACK: g).
-    pub const CONNECT: u8 = 3;
+    Connect = 3,
 }
 
-// What goes out in a slot of a response.
+impl TryFrom<u8> for Answered {
+    type Error = Fault;
+
+    ghost try_from_gives = { Answers };
+
+    fn try_from(number: u8) -> Result<Self, Fault> {
+        match number {
+            0 => Ok(Answered::Plain),
+            1 => Ok(Answered::Joined),
+            2 => Ok(Answered::Lost),
+            3 => Ok(Answered::Connect),
+            _ => Err(Fault::Range),
+        }
+    }
+}
+
+impl Answered {
+    // Whether blocks followed the header of the answered message.
+    fn was_fragmented(self) -> bool
+        ensures { result ≡ was_fragmented (answer_number self) }
+    {
+        matches!(self, Answered::Joined | Answered::Lost)
+    }
+
+    // In how many frames the header of the response goes out at most.
+    fn limit(self, dn210: u8) -> u8
+        ensures { result ≡ limit_of (answer_number self) dn210 }
+    {
+        match self {
+            Answered::Plain | Answered::Joined => dn210,
+            Answered::Lost => 1,
+            Answered::Connect => 4,
+        }
+    }
+
+    // The slot count of the answered message at least.
+    fn least(self) -> u8
+        ensures { result ≡ least_of (answer_number self) }
+    {
+        u8::from(self.was_fragmented())
+    }
+}
+
+// What goes out in a slot of a response, by its number there.
 #[derive(Clone, Copy)]
-pub struct What {}
-
-impl What {
-    pub const HEADER: u8 = 1;
-
-    pub const END: u8 = 2;
+pub enum What {
+    Header = 1,
+    End = 2,
 }
 
 // A response, before it is sent. Of the answered message: the frame X in which a header of it was heard, the countdown
 // F in it, what it was, and its slot count. Of the response: in how many frames its header goes out, the unit's DN210
 // (A.4), and, 0 for no, else yes, whether it starts a frame later, whether slot 1 of its first frame is used, whether
 // it is fragmented.
+// Kept: numbers for kinds and flags, as the C interface has them; so in `Slot` and `Calendar`.
 #[repr(C)]
 #[derive(Clone, Copy)]
 pub struct Response {
@@ -61,7 +100,7 @@ pub struct Response {
 // A slot of the calendar: its frame, counted from X, and that frame's number; the slot; what goes out in it; the
 // countdown in a header.
 #[repr(C)]
-#[derive(Clone, Copy)]
+#[derive(Clone, Copy, Default)]
 pub struct Slot {
     pub from: u8,
     pub frame: u8,
@@ -79,153 +118,78 @@ pub struct Calendar {
     pub slots: [Slot; 9],
 }
 
-// No slot.
-const NONE: Slot = Slot {
-    from: 0,
-    frame: 0,
-    slot: 0,
-    what: 0,
-    countdown: 0,
-};
-
-// Whether blocks followed the header of the answered message.
-fn was_fragmented(answered: u8) -> bool
-    ensures { result ≡ was_fragmented answered }
+// What a response answers, or the first of the faults 15, 13 and 10 that its numbers give.
+fn rules(r: Response) -> Result<Answered, Fault>
+    ensures fault { refusal result ≡ first_of (response_rules r) }
+    ensures answered { IfOk result (λ a. answer_number a ≡ r.answered) }
 {
-    answered == Answered::JOINED || answered == Answered::LOST
-}
-
-// In how many frames the header of the response goes out at most.
-fn limit(answered: u8, dn210: u8) -> u8
-    ensures { result ≡ limit_of answered dn210 }
-{
-    if answered == Answered::LOST {
-        return 1;
+    if !matches!(r.frame, 1..=18) {
+        return Err(Fault::ReportFrame);
     }
-    if answered == Answered::CONNECT {
-        return 4;
+    let answered = Answered::try_from(r.answered)?;
+    if 3 < r.countdown || 15 < r.count {
+        return Err(Fault::Range);
     }
-    dn210
-}
-
-// The slot count of the answered message at least.
-fn least(answered: u8) -> u8
-    ensures { result ≡ least_of answered }
-{
-    if was_fragmented(answered) {
-        return 1;
+    let most = answered.limit(r.dn210);
+    if 4 < most || r.frames < 1 || most < r.frames {
+        return Err(Fault::Range);
     }
-    0
-}
-
-// The first of the faults 15, 13 and 10 that these numbers give, 0 where they give none.
-fn rules(frame: u8, countdown: u8, answered: u8, count: u8, frames: u8, most: u8, least: u8) -> u8
-    ensures { result ≡ first_of (rules_of frame countdown answered count frames most least) }
-{
-    if frame < 1 {
-        return Fault::REPORT_FRAME;
+    if r.count < answered.least() {
+        return Err(Fault::Count);
     }
-    if 18 < frame {
-        return Fault::REPORT_FRAME;
-    }
-    if 3 < countdown {
-        return Fault::RANGE;
-    }
-    if 3 < answered {
-        return Fault::RANGE;
-    }
-    if 15 < count {
-        return Fault::RANGE;
-    }
-    if 4 < most {
-        return Fault::RANGE;
-    }
-    if frames < 1 {
-        return Fault::RANGE;
-    }
-    if most < frames {
-        return Fault::RANGE;
-    }
-    if count < least {
-        return Fault::COUNT;
-    }
-    0
-}
-
-// The same of a response.
-fn fault_of(r: Response) -> u8
-    ensures { result ≡ first_of (response_rules r) }
-{
-    let most = limit(r.answered, r.dn210);
-    let fewest = least(r.answered);
-    rules(
-        r.frame,
-        r.countdown,
-        r.answered,
-        r.count,
-        r.frames,
-        most,
-        fewest,
-    )
+    Ok(answered)
 }
 
 // The answered message's last frame, counted from X: that of its last repeat, or of its DMAC-END.
-fn last_frame(r: Response) -> u8
-    requires { Fits r }
+fn last_frame(r: Response, answered: Answered) -> u8
+    requires fits { Fits r }
+    requires kind { answer_number answered ≡ r.answered }
     ensures { result ≡ last_frame r }
 {
-    if was_fragmented(r.answered) {
-        return frames_to(r.frame, r.countdown, r.count - 1) as u8;
+    if answered.was_fragmented() {
+        frames_to(r.frame, r.countdown, r.count - 1) as u8
+    } else {
+        r.countdown
     }
-    r.countdown
 }
 
 // The response's first frame.
-fn first_frame(r: Response) -> u8
-    requires { Fits r }
+fn first_frame(r: Response, answered: Answered) -> u8
+    requires fits { Fits r }
+    requires kind { answer_number answered ≡ r.answered }
     ensures { result ≡ first_frame r }
 {
-    let next = last_frame(r) + 1;
-    if r.answered != Answered::CONNECT {
-        return next;
-    }
-    if r.later < 1 {
-        return next;
-    }
-    next + 1
+    let late = answered == Answered::Connect && 1 <= r.later;
+    last_frame(r, answered) + 1 + u8::from(late)
 }
 
 // How many of the header's slots are passed over: slot 1 of the first frame, if it is not used.
 fn passed_over(slot1: u8) -> u8
     ensures { result ≡ passed_over slot1 }
 {
-    if slot1 < 1 {
-        return 1;
-    }
-    0
+    u8::from(slot1 < 1)
 }
 
 // Whether the response has a DMAC-END.
-fn has_end(r: Response) -> bool
+fn has_end(r: Response, answered: Answered) -> bool
+    requires { answer_number answered ≡ r.answered }
     ensures { result ≡ has_end r }
 {
-    if r.answered == Answered::LOST {
-        return false;
-    }
-    1 <= r.fragmented
+    answered != Answered::Lost && 1 <= r.fragmented
 }
 
 // The header in slot `i`, from 0, of the `m` frames from frame `k` on.
 fn header_at(x: u8, k: u8, m: u8, i: u8) -> Slot
-    requires { (i < 2 * m) × (k + m ≤ 255) }
+    requires slot { i < 2 * m }
+    requires soon { k + m ≤ 255 }
     ensures { result ≡ header_at x (k + i / 2) (1 + 2 * (i % 2)) (m - 1 - i / 2) }
 {
     let from = k + i / 2;
     Slot {
         from,
-        frame: frame_number(x, from as u16),
+        frame: frame_number(x, u16::from(from)),
         slot: 1 + 2 * (i % 2),
-        what: What::HEADER,
+        what: What::Header as u8,
         countdown: m - 1 - i / 2,
     }
 }
@@ -240,36 +204,30 @@ fn end_after(x: u8, k: u8) -> Slot
         from: from as u8,
         frame: frame_number(x, from),
         slot: 1,
-        what: What::END,
+        what: What::End as u8,
         countdown: 0,
     }
 }
 
 // The slots from frame `k` on, without the first `over` of them.
 fn slots_from(x: u8, k: u8, m: u8, over: u8, told: bool) -> Calendar
-    requires { (over ≤ 1) × (1 ≤ m) × (m ≤ 4) × (k ≤ 90) }
+    requires over { over ≤ 1 }
+    requires frames { (1 ≤ m) × (m ≤ 4) }
+    requires soon { k ≤ 90 }
     ensures { result ≡ with_slots (slots_from x k m over told) }
 {
-    let mut slots = [NONE; 9];
-    let mut i = over;
-    while i < 2 * m {
-        let at = (i - over) as usize;
-        slots[at] = header_at(x, k, m, i);
-        i += 1;
+    let mut slots = [Slot::default(); 9];
+    for i in over..2 * m {
+        slots[usize::from(i - over)] = header_at(x, k, m, i);
     }
-    let count = 2 * m - over;
-    if !told {
-        return Calendar {
-            fault: 0,
-            count,
-            slots,
-        };
+    let mut count = 2 * m - over;
+    if told {
+        slots[usize::from(count)] = end_after(x, k + m - 1);
+        count += 1;
     }
-    let at = count as usize;
-    slots[at] = end_after(x, k + m - 1);
     Calendar {
         fault: 0,
-        count: count + 1,
+        count,
         slots,
     }
 }
@@ -278,19 +236,18 @@ fn slots_from(x: u8, k: u8, m: u8, over: u8, told: bool) -> Calendar
 pub fn calendar_of(r: Response) -> Calendar
     ensures { result ≡ calendar_of r }
 {
-    let fault = fault_of(r);
-    if fault != 0 {
-        return Calendar {
-            fault,
+    match rules(r) {
+        Ok(answered) => slots_from(
+            r.frame,
+            first_frame(r, answered),
+            r.frames,
+            passed_over(r.slot1),
+            has_end(r, answered),
+        ),
+        Err(fault) => Calendar {
+            fault: fault.number(),
             count: 0,
-            slots: [NONE; 9],
-        };
+            slots: [Slot::default(); 9],
+        },
     }
-    slots_from(
-        r.frame,
-        first_frame(r),
-        r.frames,
-        passed_over(r.slot1),
-        has_end(r),
-    )
 }

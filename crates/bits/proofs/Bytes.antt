@@ -9,6 +9,7 @@ use lib.Bits.{bit_or, or_shifted_r}
 use lib.Seq.{length-slice, take-nil, drop-nil, slice, slice-cons, slice_empty, drop-drop, take-append-add}
 use lib.Seq.{drop-append-add, take_at, drop_at}
 use lib.Pow.{shl_exact}
+use Rattle.std.proofs.lemmas.List.{get_or_at}
 use Rattle.bits.specs.Bits.{num, bits_n, bits_of, bytes_n, AllBytes}
 use Rattle.bits.proofs.Numbers.{length_bits_n, num_append, num_lt, num_bits_n, bits_n_is, num_take_lt, num_field}
 use Rattle.bits.proofs.Numbers.{take_of_drop, drop_of_take, num_shr}
@@ -76,7 +77,8 @@ pub bytes_n_bits_of : (s : List ℕ) (b : List Bool) → AllBytes s → bytes_n 
 unfolding bytes_n bits_of
 bytes_n_bits_of [] b h = refl
 bytes_n_bits_of (x ∷ xs) b h =
-    let e : (bits_n 8 x ++ bits_of xs) ++ b ≡ bits_n 8 x ++ (bits_of xs ++ b) = append_assoc (bits_n 8 x) (bits_of xs) b in
+    let e : (bits_n 8 x ++ bits_of xs) ++ b ≡ bits_n 8 x ++ (bits_of xs ++ b) =
+    append_assoc (bits_n 8 x) (bits_of xs) b in
     let l : length (bits_n 8 x) ≡ 8 = length_bits_n 8 x in
     ap₂ ◌∷◌
     (ap num (ap (take 8) e ∙ take_at (bits_n 8 x) (bits_of xs ++ b) 8 l) ∙ num_bits_n 8 x h.0)
@@ -107,29 +109,55 @@ bytes_drop (suc n) (x ∷ xs) h = bytes_drop n xs h.1
 pub length_bits_of_slice : (f t : ℕ) (s : List ℕ) → t ≤ length s → length (bits_of (slice f t s)) ≡ 8 * (t - f)
 length_bits_of_slice f t s h = length_bits_of (slice f t s) ∙ ap (λ (n : ℕ). 8 * n) (length-slice f t s h)
 
+-- the last n bytes are loaded, and the others are left
+pub record Loaded (s left : List ℕ) (n acc : ℕ) : Type 0 where
+  pub last : List ℕ
+  pub split : s ≡ left ++ last
+  pub count : n ≡ length last
+  pub value : acc ≡ num (bits_of last)
+
+pub loaded_none : (s : List ℕ) → Loaded s s 0 0
+unfolding num bits_of
+loaded_none s = record { last = []; split = sym (append-nil s); count = refl; value = refl }
+
 -- a turn of the loop that loads: one byte more, before those that were loaded
-pub load_step : (s : List ℕ) (j t acc b low : ℕ) → j < t → t ≤ length s → t ≤ j + 8 → get_or s j 0 < 256
-    → low ≡ 8 * (t - suc j)
-    → acc ≡ num (bits_of (slice (suc j) t s)) → b ≡ get_or s j 0
-    → bit_or acc (b * 2 ^ low % 2 ^ 64) ≡ num (bits_of (slice j t s))
+pub loaded_more : {s left left' : List ℕ} {n acc : ℕ} (x b : ℕ) → length s ≤ 8 → ((i : ℕ) → get_or s i 0 < 256)
+    → left ≡ left' ++ (x ∷ []) → b ≡ x → Loaded s left n acc
+    → Loaded s left' (n + 1) (bit_or acc (b * 2 ^ (8 * n) % 2 ^ 64))
 unfolding bits_of
-load_step s j t acc b low h k l lt el e eb =
-    let m = bits_of (slice (suc j) t s) in
-    let n : length m ≡ low = length_bits_of_slice (suc j) t s k ∙ sym el in
-    let small : acc < 2 ^ low = rw (e, ← n) (num_lt m) in
-    rw (
-      shl_exact {a = b} 8 low 64 (omega arith) (omega arith),
-      or_shifted_r b low acc small,
-      slice-cons j t s 0 h k,
-      num_append (bits_n 8 (get_or s j 0)) m,
-      num_bits_n 8 (get_or s j 0) lt,
-      n,
-      e,
-      eb,
-    ) refl
+loaded_more {s} {left} {left'} {n} {acc} x b k bytes e eb l =
+    let m = bits_of l.last in
+    let split : s ≡ left' ++ (x ∷ l.last) =
+    rw e at l.split ∙ append_assoc left' (x ∷ []) l.last in
+    let at : get_or s (length left') 0 ≡ x =
+    rw split (get_or_at left' x l.last 0 (length left') refl) in
+    let lt : x < 256 = omega (arith, bytes (length left')) in
+    let size : length m ≡ 8 * n = length_bits_of l.last ∙ ap (λ (j : ℕ). 8 * j) (sym l.count) in
+    let small : acc < 2 ^ (8 * n) = rw (l.value, ← size) (num_lt m) in
+    let short : n + 1 ≤ 8 = omega (arith, ap length split, length-append left' (x ∷ l.last), l.count) in
+    record {
+      last = x ∷ l.last;
+      split = split;
+      count = omega (arith, l.count);
+      value =
+          rw (
+            eb,
+            shl_exact {a = x} 8 (8 * n) 64 lt (omega arith),
+            or_shifted_r x (8 * n) acc small,
+            num_append (bits_n 8 x) m,
+            num_bits_n 8 x lt,
+            size,
+            l.value,
+          ) refl;
+    }
+
+pub loaded_all : {s left : List ℕ} {n acc : ℕ} → length left ≡ 0 → Loaded s left n acc → acc ≡ num (bits_of s)
+loaded_all {left = []} e l = rw l.split l.value
+loaded_all {left = x ∷ xs} e l = absurd (omega arith)
 
 -- one byte as a number
-pub num_byte : (s : List ℕ) (i : ℕ) → i < length s → get_or s i 0 < 256 → num (bits_of (slice i (suc i) s)) ≡ get_or s i 0
+pub num_byte : (s : List ℕ) (i : ℕ) → i < length s → get_or s i 0 < 256
+    → num (bits_of (slice i (suc i) s)) ≡ get_or s i 0
 num_byte s i h b =
     rw (
       slice-cons i (suc i) s 0 (omega arith) h,

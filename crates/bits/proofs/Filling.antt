@@ -45,7 +45,8 @@ strip_filled room m h =
 
 pub length_filled : (room : ℕ) (m : List Bool) → length m ≤ room → length (filled room m) ≡ room
 unfolding filled
-length_filled room m h = length-append m (fill_bits (room - length m)) ∙ omega (arith, length_fill_bits (room - length m))
+length_filled room m h =
+    length-append m (fill_bits (room - length m)) ∙ omega (arith, length_fill_bits (room - length m))
 
 -- a room that no bit is left of has no fill
 pub filled_none : (m : List Bool) → filled (length m) m ≡ m

@@ -244,6 +244,7 @@ module _ (x a w v : ℕ) (h : a + w ≤ 64) (hv : v < 2 ^ w) (hx : x < 2 ^ 64) w
       ∙ or_block (w + a) above 0 (x % 2 ^ a) (v * 2 ^ a) (lt_of_lt_of_le after_lt after_le) s
       ∙ ap₂ (λ (y z : ℕ). y * 2 ^ (w + a) + z) (or_zero_r above) (or_shifted_r v a (x % 2 ^ a) after_lt)
 
-  pub paste_code : bit_or (bit_and x (2 ^ 64 - 1 - (2 ^ w - 1) * 2 ^ bit_and a 63 % 2 ^ 64)) (v * 2 ^ bit_and a 63 % 2 ^ 64)
+  pub paste_code : bit_or (bit_and x (2 ^ 64 - 1 - (2 ^ w - 1) * 2 ^ bit_and a 63 % 2 ^ 64))
+      (v * 2 ^ bit_and a 63 % 2 ^ 64)
       ≡ above * 2 ^ (w + a) + (v * 2 ^ a + x % 2 ^ a)
   paste_code = rw (stays, kept, shl_six v a w hv h) placed

@@ -3,13 +3,12 @@ use mathlib.Core.Path.{◌≡◌, refl, sym, ap, ap₂, ◌∙◌}
 use mathlib.Core.Bool.{Bool}
 use mathlib.Core.List.{List, [], ◌∷◌, ◌++◌, append_assoc, append-nil}
 use Prim.Native.Nat.{ℕ, zero, suc, ◌+◌, ◌*◌, ◌%◌, ◌^◌, ◌≤◌, ◌<◌}
-use native.Mathlib.Numerals.{add-one}
 use native.Mathlib.Omega.{arith}
 use lib.Arith.{digits_lt}
 use lib.Bits.{bit_or, or_shifted}
 use lib.Pow.{high, pow-add, shl_exact}
 use lib.ListN.{get_or, length, take, drop, length-append, length-take, length-drop}
-use lib.Seq.{take_at, drop_at, drop-drop, drop-cons, drop-length, take-add, take-take}
+use lib.Seq.{take_at, drop_at, drop-drop, take-add, take-take}
 use Rattle.bits.specs.Bits.{num, bits_n, bits_of, over, field, Inside}
 use Rattle.bits.specs.Layout.{Part, part, pack, total, widths, parts_with, parts_in, AllFit, AllNarrow}
 use Rattle.bits.proofs.Numbers.{length_bits_n, num_bits_n, bits_n_is, bits_n_add, bits_n_high, num_take_lt}
@@ -94,7 +93,7 @@ put_waiting ps out out' to n acc h b =
 module _ {w v : ℕ} {ws vs out : List ℕ} {goal : List Bool} {to n acc : ℕ}
     (s : ToPut (w ∷ ws) (v ∷ vs) goal out to n acc) where
   -- a part that fits waits with them
-  join_next : n + w ≤ 56 → ToPut ws vs goal out to (n + w) (bit_or (acc * 2 ^ w % 2 ^ 64) v)
+  pub join_next : n + w ≤ 56 → ToPut ws vs goal out to (n + w) (bit_or (acc * 2 ^ w % 2 ^ 64) v)
   join_next h =
       let lt = s.fit.0 in
       let code : bit_or (acc * 2 ^ w % 2 ^ 64) v ≡ acc * 2 ^ w + v =
@@ -112,7 +111,7 @@ module _ {w v : ℕ} {ws vs out : List ℕ} {goal : List Bool} {to n acc : ℕ}
       }
 
   -- one that does not waits after they are put
-  wait_next : (out' : List ℕ) → length out' ≡ length out → bits_of out' ≡ over to (bits_n n acc) (bits_of out)
+  pub wait_next : (out' : List ℕ) → length out' ≡ length out → bits_of out' ≡ over to (bits_n n acc) (bits_of out)
       → ToPut ws vs goal out' (to + n) w v
   wait_next out' l b =
       record {
@@ -125,41 +124,17 @@ module _ {w v : ℕ} {ws vs out : List ℕ} {goal : List Bool} {to n acc : ℕ}
         bits = put_waiting (part w v ∷ parts_with ws vs) out out' to n acc (omega arith) b ∙ s.bits;
       }
 
--- the same at place i of the two lists
-abbrev pub LeftAt : List ℕ → List ℕ → List Bool → List ℕ → ℕ → ℕ → ℕ → ℕ → Type 0
-LeftAt ws vs goal out to n acc i = ToPut (drop i ws) (drop i vs) goal out to n acc
-
 pub none_put : (ws vs : List ℕ) (out : List ℕ) (at : ℕ) → length ws ≡ length vs → AllNarrow ws
     → AllFit (parts_with ws vs)
     → Inside (length out) at (at + total (parts_with ws vs))
-    → LeftAt ws vs (over at (pack (parts_with ws vs)) (bits_of out)) out at 0 0 0
+    → ToPut ws vs (over at (pack (parts_with ws vs)) (bits_of out)) out at 0 0
 unfolding bits_n
 none_put ws vs out at p n f r =
     record { paired = p; narrow = n; fit = f; short = omega arith; held = omega arith; room = omega arith; bits = refl }
 
-module _ (ws vs : List ℕ) (i : ℕ) {goal : List Bool} {out : List ℕ} {to n acc : ℕ} (h : i < length ws)
-    (s : LeftAt ws vs goal out to n acc i) where
-  both : ToPut (get_or ws i 0 ∷ drop (suc i) ws) (get_or vs i 0 ∷ drop (suc i) vs) goal out to n acc
-  both =
-      let l = s.paired in
-      rw (drop-cons vs i 0 (omega (arith, length-drop i ws, length-drop i vs))) at (rw (drop-cons ws i 0 h) at s)
-
-  pub next_narrow : get_or ws i 0 ≤ 56
-  next_narrow = both.narrow.0
-
-  pub joined_next : n + get_or ws i 0 ≤ 56
-      → LeftAt ws vs goal out to (n + get_or ws i 0) (bit_or (acc * 2 ^ get_or ws i 0 % 2 ^ 64) (get_or vs i 0)) (i + 1)
-  joined_next k = rw (add-one i) (join_next both k)
-
-  pub waits_next : (out' : List ℕ) → length out' ≡ length out → bits_of out' ≡ over to (bits_n n acc) (bits_of out)
-      → LeftAt ws vs goal out' (to + n) (get_or ws i 0) (get_or vs i 0) (i + 1)
-  waits_next out' l b = rw (add-one i) (wait_next both out' l b)
-
-pub all_put : (ws vs : List ℕ) {goal : List Bool} {out : List ℕ} {to n acc : ℕ}
-    → LeftAt ws vs goal out to n acc (length ws)
+pub all_put : (ws vs : List ℕ) {goal : List Bool} {out : List ℕ} {to n acc : ℕ} → length ws ≡ 0
+    → ToPut ws vs goal out to n acc
     → over to (bits_n n acc) (bits_of out) ≡ goal
-all_put ws vs {goal} {out} {to} {n} {acc} s =
-    ap (λ (x : List Bool). over to x (bits_of out))
-    (sym (append-nil (bits_n n acc))
-    ∙ ap (λ (l : List ℕ). bits_n n acc ++ pack (parts_with l (drop (length ws) vs))) (sym (drop-length ws)))
-    ∙ s.bits
+all_put [] vs {goal} {out} {to} {n} {acc} e s =
+    ap (λ (x : List Bool). over to x (bits_of out)) (sym (append-nil (bits_n n acc))) ∙ s.bits
+all_put (w ∷ ws) vs e s = absurd (omega arith)

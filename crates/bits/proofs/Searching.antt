@@ -13,8 +13,8 @@ use lib.Pow.{pow_mono, shr_lt, mod-pow-add, split}
 use lib.Seq.{slice, length-slice, drop-append-le, take-take}
 use Rattle.bits.specs.Bits.{num, bits_of}
 use Rattle.bits.specs.Fill.{before, strip, found_at}
-use Rattle.bits.specs.declared.Found.{Found}
-use Rattle.bits.specs.declared.Found.TheVariants.{At, Nothing}
+use Rattle.std.specs.Prelude as rust
+use Rattle.std.specs.Prelude.{Some, None}
 use Rattle.bits.proofs.Numbers.{bits_n_zero, bits_n_is, num_low, num_lt, fits_in}
 use Rattle.bits.proofs.Bytes.{length_bits_of, num_byte_shr}
 use Rattle.bits.proofs.Filling.{strip_at, strip_zeros, strip_lt, fill_start}
@@ -63,7 +63,8 @@ module _ (b : List Bool) where
       let k = n - suc t in
       let e : k + suc t ≡ n = omega arith in
       let end : drop k b ≡ true ∷ replicate t false =
-      sym (bits_n_is (suc t) (2 ^ t) (drop k b) (rw (length-drop k b) (omega arith)) (sym (num_low b k (suc t) e) ∙ low))
+      sym (bits_n_is (suc t) (2 ^ t) (drop k b) (rw (length-drop k b) (omega arith))
+      (sym (num_low b k (suc t) e) ∙ low))
       ∙ fill_start t in (
         take k b,
         ap strip (sym (take-append-drop k b) ∙ ap (λ (x : List Bool). take k b ++ x) end)
@@ -82,7 +83,8 @@ pub record Turn (s : List ℕ) (from to j a : ℕ) : Type 0 where
   pub more : get_or s j 0 / 2 ^ a ≡ 0 → strip (slice (8 * j) to (bits_of s)) ≡ none
   pub found : 0 < get_or s j 0 / 2 ^ a
       → (count_trailing_zeros 8 (get_or s j 0 / 2 ^ a) ≤ 8 * j + 7 - a)
-      × (At (8 * j + 7 - a - count_trailing_zeros 8 (get_or s j 0 / 2 ^ a)) ≡ found_at from (strip (slice from to (bits_of s))))
+      × (Some (8 * j + 7 - a - count_trailing_zeros 8 (get_or s j 0 / 2 ^ a))
+      ≡ found_at from (strip (slice from to (bits_of s))))
 
 -- where these bits stand after the room, and there is no 1 after the byte
 module _ (s : List ℕ) (from to i j a : ℕ) (n : i ≡ suc j) (f : from ≤ 8 * j) (h : 8 * j < to) (t : to ≤ 8 * length s)
@@ -107,7 +109,7 @@ module _ (s : List ℕ) (from to i j a : ℕ) (n : i ≡ suc j) (f : from ≤ 8 
       slice_split (8 * j) (8 * i - a) to (bits_of s) (omega arith) (omega arith) (omega (arith, length_bits_of s))
 
   at_last : (k : ℕ) (m : List Bool) → strip looked ≡ some m → length m + suc k ≡ length looked
-      → (k ≤ 8 * j + 7 - a) × (At (8 * j + 7 - a - k) ≡ found_at from (strip (slice from to (bits_of s))))
+      → (k ≤ 8 * j + 7 - a) × (Some (8 * j + 7 - a - k) ≡ found_at from (strip (slice from to (bits_of s))))
   unfolding found_at
   at_last k m o l =
       let start = slice from (8 * j) (bits_of s) in
@@ -138,12 +140,12 @@ module _ (s : List ℕ) (from to i j a : ℕ) (n : i ≡ suc j) (f : from ≤ 8 
       }
 
 -- the room from bit `from` on, in one that starts earlier: a 1 before `from` is none of its own
-abbrev pub Within : ℕ → Found → Found → Type 0
-Within from (At i) r = (i < from → Nothing ≡ r) × (from ≤ i → At i ≡ r)
-Within from Nothing r = Nothing ≡ r
+abbrev pub Within : ℕ → rust.Option ℕ → rust.Option ℕ → Type 0
+Within from (Some i) r = (i < from → None ≡ r) × (from ≤ i → Some i ≡ r)
+Within from None r = None ≡ r
 
 module _ (lo from : ℕ) (early own : List Bool) (n : lo + length early ≡ from) where
-  within_early : (o : Option (List Bool)) → strip early ≡ o → Within from (found_at lo o) Nothing
+  within_early : (o : Option (List Bool)) → strip early ≡ o → Within from (found_at lo o) None
   unfolding found_at
   within_early (some m) e = (λ g. refl, λ g. absurd (omega (arith, strip_lt early m e)))
   within_early none e = refl

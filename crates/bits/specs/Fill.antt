@@ -1,8 +1,8 @@
 -- Fill (EN 300 396-3, 8.5.5): the bits left over in a room are a 1 and 0s after it.
 use Rattle.std.specs.Prelude.{Bool, true, false, List, [], ◌∷◌, ◌++◌, ℕ, zero, suc, ◌+◌, ◌-◌, length, replicate}
 use Rattle.std.proofs.Math.Option.{Option, none, some}
-use Rattle.bits.specs.declared.Found.{Found}
-use Rattle.bits.specs.declared.Found.TheVariants.{At, Nothing}
+use Rattle.std.specs.Prelude as rust
+use Rattle.std.specs.Prelude.{Some, None}
 
 -- The fill for n bits left: a 1 first, 0s after it; nothing where none is left.
 unfoldable pub fill_bits : ℕ → List Bool
@@ -25,6 +25,6 @@ strip [] = none
 strip (b ∷ bs) = before b (strip bs)
 
 -- Where the last 1 stands, for a string that starts at bit `from`.
-unfoldable pub found_at : ℕ → Option (List Bool) → Found
-found_at from (some r) = At (from + length r)
-found_at from none = Nothing
+unfoldable pub found_at : ℕ → Option (List Bool) → rust.Option ℕ
+found_at from (some r) = Some (from + length r)
+found_at from none = None

@@ -1,29 +1,19 @@
 // Bit strings over lent bytes: eight bits to a byte, the first bit highest.
 #![tactic(auto)]
 
-ghost use Rattle.std.specs.Prelude.{◌≡◌, false, ◌+◌, ◌-◌, ◌*◌, ◌/◌, ◌%◌, ◌^◌, ◌≤◌, ◌<◌, min, leb, length, take, drop, replicate};
+ghost use Rattle.std.specs.Prelude.{◌≡◌, false, leb, length, take, drop, replicate};
+ghost use Rattle.std.specs.Prelude.{ℕ, ◌+◌, ◌-◌, ◌*◌, ◌/◌, ◌%◌, ◌^◌, ◌≤◌, ◌<◌, min};
 ghost use Rattle.std.proofs.Math.Seq.{slice};
+ghost use Rattle.std.proofs.Common.{rules};
 ghost use Rattle.bits.specs.Bits.{num, bits_n, bits_of, over, Inside, Got};
 ghost use Rattle.bits.specs.Layout.{total, parts_with, AllFit, AllNarrow, pack};
 ghost use Rattle.bits.specs.Fill.{strip, found_at, fill_bits};
-
-fn wide(x: u8) -> u64
-    ensures { result ≡ x }
-{
-    x as u64
-}
-
-fn index(x: u8) -> usize
-    ensures { result ≡ x }
-{
-    x as usize
-}
 
 // The smaller of two numbers.
 pub fn least(a: usize, b: usize) -> usize
     ensures { result ≡ min a b }
 {
-    if a < b { a } else { b }
+    a.min(b)
 }
 
 // The most bits of a field: eight bytes hold it wherever it starts.
@@ -40,35 +30,25 @@ pub fn bits_lent(n: usize, bytes: usize) -> bool
     whole < bytes
 }
 
-// The bytes from `first` up to `last`, eight at most, as one number, the first byte highest.
-fn load(s: &[u8], first: usize, last: usize) -> u64
-    requires { (first ≤ last) × (last ≤ length s.now) × (last ≤ first + 8) }
-    ensures { result ≡ num (bits_of (slice first last s.now)) }
+// The bytes, eight at most, as one number, the first byte highest.
+fn load(s: &[u8]) -> u64
+    requires { length s.now ≤ 8 }
+    ensures { result ≡ num (bits_of s.now) }
 {
     let mut acc: u64 = 0;
-    let mut i = last;
-    let mut low: usize = 0;
-    while first < i {
-        i -= 1;
-        acc = acc | (wide(s[i]) << low);
-        low += 8;
+    for (i, &x) in s.iter().rev().enumerate() {
+        acc |= u64::from(x) << (8 * i);
     }
     acc
 }
 
-// Puts the low `8 * (last - first)` bits of `v` into the bytes from `first` up to `last`.
-fn store(out: &mut [u8], first: usize, last: usize, v: u64)
-    requires { (first ≤ last) × (last ≤ length out.old) × (last ≤ first + 8) }
-    ensures { bits_of out.new
-        ≡ over (8 * first) (bits_n (8 * (last - first)) v) (bits_of out.old) }
+// Puts the low bits of `v`, eight to a byte, into the bytes, eight at most.
+fn store(out: &mut [u8], v: u64)
+    requires { length out.old ≤ 8 }
+    ensures { bits_of out.new ≡ bits_n (8 * length out.old) v }
 {
-    let mut rest = v;
-    let mut i = last;
-    while first < i {
-        i -= 1;
-        out[i] = (rest & 255) as u8;
-        rest = rest >> 8;
-    }
+    let unused = 8 - out.len();
+    out.copy_from_slice(&v.to_be_bytes()[unused..]);
 }
 
 // The mask of the low `w` bits.
@@ -100,14 +80,14 @@ fn get_in_byte(s: &[u8], last: usize, k: usize) -> u64
     requires { (last < 8 * length s.now) × (k ≤ last % 8 + 1) }
     ensures { Got (bits_of s.now) (last + 1 - k) k result }
 {
-    cut(wide(s[last >> 3]), 7 - (last & 7), k)
+    cut(u64::from(s[last >> 3]), 7 - (last & 7), k)
 }
 
 // How many of the `w` bits that end with bit `last` are of its byte.
 fn ending(last: usize, w: usize) -> usize
     ensures { result ≡ min w (last % 8 + 1) }
 {
-    least(w, (last & 7) + 1)
+    w.min((last & 7) + 1)
 }
 
 // `get` byte by byte: for fewer than eight bytes.
@@ -123,48 +103,83 @@ fn get_few(s: &[u8], at: usize, w: usize) -> u64
     (get_few(s, at, w - k) << k) | get_in_byte(s, last, k)
 }
 
-// Puts the `w` bits of `v` at bit `at`, through the bytes from `first` up to `last`, eight at most, that the field
-// stands in.
-fn put_through(out: &mut [u8], first: usize, last: usize, at: usize, w: usize, v: u64)
-    requires { Inside (length out.old) at (at + w) × (8 * first ≤ at) × (at + w ≤ 8 * last)
-        × (last ≤ length out.old) × (last ≤ first + 8) × (w ≤ 56) × (v < 2 ^ w) }
+// `put` for eight bytes at most.
+fn put_through(out: &mut [u8], at: usize, w: usize, v: u64)
+    requires { (length out.old ≤ 8) × (at + w ≤ 8 * length out.old) × (w ≤ 56) × (v < 2 ^ w) }
     ensures { bits_of out.new ≡ over at (bits_n w v) (bits_of out.old) }
 {
-    let whole = load(out, first, last);
-    store(
-        out,
-        first,
-        last,
-        pasted(whole, (last << 3) - (at + w), w, v),
-    );
+    let whole = load(out);
+    let after = (out.len() << 3) - (at + w);
+    store(out, pasted(whole, after, w, v));
 }
 
 // The `w` bits from bit `at` on, as a number.
-pub fn get(s: &[u8], at: usize, w: usize) -> u64
+fn field(s: &[u8], at: usize, w: usize) -> u64
     requires { Inside (length s.now) at (at + w) × (w ≤ 56) }
     ensures { Got (bits_of s.now) at w result }
 {
     if s.len() < 8 {
         return get_few(s, at, w);
     }
-    let first = least(at >> 3, s.len() - 8);
-    cut(load(s, first, first + 8), (first << 3) + 64 - (at + w), w)
+    let first = (at >> 3).min(s.len() - 8);
+    cut(load(&s[first..first + 8]), (first << 3) + 64 - (at + w), w)
 }
 
-// The same, of eight bits at most.
-pub fn get8(s: &[u8], at: usize, w: usize) -> u8
-    requires { Inside (length s.now) at (at + w) × (w ≤ 8) }
-    ensures { Got (bits_of s.now) at w result }
-{
-    get(s, at, w) as u8
+// A type of numbers that a field of at most `most` bits is taken as.
+pub trait Number {
+    ghost most: { ℕ };
+
+    ghost value: { Self → ℕ };
+
+    fn narrowed(x: u64) -> Self
+        requires { x < 2 ^ most }
+        ensures { value result ≡ x };
+
+    ghost most_of_a_field: { most ≤ 56 };
 }
 
-// The same, of 32 bits at most.
-pub fn get32(s: &[u8], at: usize, w: usize) -> u32
-    requires { Inside (length s.now) at (at + w) × (w ≤ 32) }
-    ensures { Got (bits_of s.now) at w result }
+impl Number for u8 {
+    ghost most = { 8 };
+
+    ghost value = { λ x. x };
+
+    ghost most_of_a_field = { Prim.search rules };
+
+    fn narrowed(x: u64) -> u8 {
+        x as u8
+    }
+}
+
+impl Number for u32 {
+    ghost most = { 32 };
+
+    ghost value = { λ x. x };
+
+    ghost most_of_a_field = { Prim.search rules };
+
+    fn narrowed(x: u64) -> u32 {
+        x as u32
+    }
+}
+
+impl Number for u64 {
+    ghost most = { 56 };
+
+    ghost value = { λ x. x };
+
+    ghost most_of_a_field = { Prim.search rules };
+
+    fn narrowed(x: u64) -> u64 {
+        x
+    }
+}
+
+// The `w` bits from bit `at` on: eight at most as a `u8`, 32 as a `u32`, 56 as a `u64`.
+pub fn get<T: Number>(s: &[u8], at: usize, w: usize) -> T
+    requires { Inside (length s.now) at (at + w) × (w ≤ T.most) }
+    ensures { Got (bits_of s.now) at w (T.value result) }
 {
-    get(s, at, w) as u32
+    T::narrowed(field(s, at, w))
 }
 
 // Puts the `w` bits of `v` at bit `at`; every other bit stays.
@@ -173,12 +188,11 @@ pub fn put(out: &mut [u8], at: usize, w: usize, v: u64)
     ensures { bits_of out.new ≡ over at (bits_n w v) (bits_of out.old) }
 {
     if out.len() < 8 {
-        let last = out.len();
-        put_through(out, 0, last, at, w, v);
+        put_through(out, at, w, v);
         return;
     }
-    let first = least(at >> 3, out.len() - 8);
-    put_through(out, first, first + 8, at, w, v);
+    let first = (at >> 3).min(out.len() - 8);
+    put_through(&mut out[first..first + 8], at - (first << 3), w, v);
 }
 
 // Puts each value into its width of bits, side by side from bit `at` on: `n` bits, the number `acc`, wait to be put
@@ -193,10 +207,8 @@ pub fn put_all(out: &mut [u8], at: usize, widths: &[u8], values: &[u64])
     let mut to = at;
     let mut acc: u64 = 0;
     let mut n: usize = 0;
-    let mut i: usize = 0;
-    while i < widths.len() {
-        let w = index(widths[i]);
-        let v = values[i];
+    for (&width, &v) in widths.iter().zip(values) {
+        let w = usize::from(width);
         if FIELD < n + w {
             put(out, to, n, acc);
             to += n;
@@ -206,7 +218,6 @@ pub fn put_all(out: &mut [u8], at: usize, widths: &[u8], values: &[u64])
             acc = (acc << w) | v;
             n += w;
         }
-        i += 1;
     }
     put(out, to, n, acc);
 }
@@ -217,11 +228,9 @@ pub fn copy(src: &[u8], from: usize, dst: &mut [u8], to: usize, n: usize)
     ensures { bits_of dst.new
         ≡ over to (take n (drop from (bits_of src.now))) (bits_of dst.old) }
 {
-    let mut i = 0;
-    while i < n {
-        let w = least(n - i, FIELD);
-        put(dst, to + i, w, get(src, from + i, w));
-        i += w;
+    for i in (0..n).step_by(FIELD) {
+        let w = (n - i).min(FIELD);
+        put(dst, to + i, w, field(src, from + i, w));
     }
 }
 
@@ -230,11 +239,9 @@ pub fn clear(out: &mut [u8], from: usize, to: usize)
     requires { Inside (length out.old) from to }
     ensures { bits_of out.new ≡ over from (replicate (to - from) false) (bits_of out.old) }
 {
-    let mut i = from;
-    while i < to {
-        let w = least(to - i, FIELD);
+    for i in (from..to).step_by(FIELD) {
+        let w = (to - i).min(FIELD);
         put(out, i, w, 0);
-        i += w;
     }
 }
 
@@ -244,46 +251,36 @@ pub fn fill(out: &mut [u8], from: usize, to: usize)
     ensures { bits_of out.new ≡ over from (fill_bits (to - from)) (bits_of out.old) }
 {
     if from < to {
-        let w = least(to - from, FIELD);
+        let w = (to - from).min(FIELD);
         put(out, from, w, 1 << (w - 1));
         clear(out, from + w, to);
     }
 }
 
-// A place, or none.
-#[derive(Clone, Copy)]
-pub enum Found {
-    At(usize),
-    Nothing,
-}
-
 // The last bit that is 1 of those from `from` up to `to`, byte by byte from the end. Of the last byte the bits after
 // the room are left out; in the first one a 1 before the room is none of its own. It calls itself where the room starts
 // within a byte, and so stands in the image once (decision 12).
-pub fn last_one(s: &[u8], from: usize, to: usize) -> Found
+pub fn last_one(s: &[u8], from: usize, to: usize) -> Option<usize>
     requires { Inside (length s.now) from to }
     ensures { result ≡ found_at from (strip (slice from to (bits_of s.now))) }
 {
     let before = from & 7;
     if before != 0 {
-        let Found::At(at) = last_one(s, from - before, to) else {
-            return Found::Nothing;
-        };
+        let at = last_one(s, from - before, to)?;
         if at < from {
-            return Found::Nothing;
+            return None;
         }
-        return Found::At(at);
+        return Some(at);
     }
     let first = from >> 3;
-    let mut i = (to + 7) >> 3;
-    let mut after = (i << 3) - to;
-    while first < i {
-        i -= 1;
+    let last = (to + 7) >> 3;
+    let mut after = (last << 3) - to;
+    for i in (first..last).rev() {
         let byte = s[i] >> after;
         if byte != 0 {
-            return Found::At((i << 3) + 7 - after - (u8::trailing_zeros(byte) as usize));
+            return Some((i << 3) + 7 - after - (byte.trailing_zeros() as usize));
         }
         after = 0;
     }
-    Found::Nothing
+    None
 }

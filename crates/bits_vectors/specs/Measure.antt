@@ -1,8 +1,6 @@
 -- What is known of parts that were measured.
-use Rattle.std.specs.Prelude.{◌≡◌, List, ℕ, ◌*◌, ◌≤◌, length}
+use Rattle.std.specs.Prelude.{◌≡◌, List, ℕ, ◌*◌, ◌≤◌, length, Option, Some, None}
 use Rattle.bits.specs.Layout.{parts_with, total, AllFit, AllNarrow}
-use Rattle.bits_vectors.specs.declared.parts.Size.{Size}
-use Rattle.bits_vectors.specs.declared.parts.Size.TheVariants.{Bits, Unfit}
 
 -- Parts of n bits together that `put_all` takes.
 pub record Whole (ws vs : List ℕ) (n : ℕ) : Type 0 where
@@ -12,6 +10,6 @@ pub record Whole (ws vs : List ℕ) (n : ℕ) : Type 0 where
   pub few : n ≤ 56 * length ws
 
 -- A size is that of parts that `put_all` takes.
-abbrev pub Measured : List ℕ → List ℕ → Size → Type 0
-Measured ws vs (Bits n) = Whole ws vs n
-Measured ws vs Unfit = Unit {0}
+abbrev pub Measured : List ℕ → List ℕ → Option ℕ → Type 0
+Measured ws vs (Some n) = Whole ws vs n
+Measured ws vs None = Unit {0}

@@ -21,8 +21,7 @@ mod parts;
 
 ghost use Rattle.std.specs.Prelude.{◌+◌, ◌≤◌, length};
 
-use crate::calls::Said;
-use crate::parts::index;
+use crate::calls::{Said, Untaken};
 use lines::input::Taken;
 use lines::line;
 use std::io::{Read, Write};
@@ -32,29 +31,33 @@ fn number(body: &[u8], at: usize) -> usize
     requires { at + 2 ≤ length body.now }
     ensures { result ≤ 65535 }
 {
-    records::two_at(body, at) as usize
+    usize::from(records::two_at(body, at))
 }
 
 // Makes a call on the runs `s` and `t`.
-fn answer(call: u16, body: &[u8], s: &mut [u8], t: &[u8]) -> Said
+fn answer(call: u16, body: &[u8], s: &mut [u8], t: &[u8]) -> Result<Said, Untaken>
     requires { 15 ≤ length body.now }
 {
     let x = number(body, 0);
     let y = number(body, 2);
     match call {
-        1..=3 => calls::get(call, s, x, y),
+        1 => calls::get::<u64>(56, s, x, y),
+        2 => calls::get::<u8>(8, s, x, y),
+        3 => calls::get::<u32>(32, s, x, y),
         4 => calls::put(s, x, y, records::eight(body, 6)),
         5 => calls::put_all(s, x, t),
         6 => calls::copy(t, x, s, y, number(body, 4)),
-        7..=9 => calls::room(call, s, x, y),
-        _ => Said::Unknown,
+        7 => calls::clear(s, x, y),
+        8 => calls::fill(s, x, y),
+        9 => calls::last_one(s, x, y),
+        _ => Err(Untaken::Unknown),
     }
 }
 
 fn number_line<W: Write>(to: &mut W, n: u64) -> bool {
     let mut out = [0u8; 32];
     let end = line::number(&mut out, n);
-    line::say(to, &out, end)
+    line::say(to, &out[..end])
 }
 
 fn bytes_line<W: Write>(to: &mut W, s: &[u8]) -> bool
@@ -62,19 +65,19 @@ fn bytes_line<W: Write>(to: &mut W, s: &[u8]) -> bool
 {
     let mut out = [0u8; 512];
     let end = line::bytes(&mut out, s);
-    line::say(to, &out, end)
+    line::say(to, &out[..end])
 }
 
 // Writes the line of an answer, whose bytes are those of `s`; false where nobody takes it.
-fn told<W: Write>(to: &mut W, said: Said, s: &[u8]) -> bool
+fn told<W: Write>(to: &mut W, said: Result<Said, Untaken>, s: &[u8]) -> bool
     requires { length s.now ≤ 255 }
 {
     match said {
-        Said::Number(n) => number_line(to, n),
-        Said::Bytes => bytes_line(to, s),
-        Said::Nothing => line::say(to, b"none\n", 5),
-        Said::Range => line::say(to, b"range\n", 6),
-        Said::Unknown => line::say(to, b"call\n", 5),
+        Ok(Said::Number(n)) => number_line(to, n),
+        Ok(Said::Bytes) => bytes_line(to, s),
+        Ok(Said::Nothing) => line::say(to, b"none\n"),
+        Err(Untaken::Range) => line::say(to, b"range\n"),
+        Err(Untaken::Unknown) => line::say(to, b"call\n"),
     }
 }
 
@@ -92,7 +95,7 @@ fn call<W: Write>(to: &mut W, kind: u16, body: &[u8], s: &mut [u8], t: &[u8]) ->
     requires { (15 + length s.old ≤ length body.now) × (length s.old ≤ 255) }
 {
     let end = 15 + s.len();
-    text::copy(s, 0, &body[15..end]);
+    s.copy_from_slice(&body[15..end]);
     let said = answer(kind, body, s, t);
     told(to, said, s)
 }
@@ -104,7 +107,7 @@ fn answered<W: Write>(to: &mut W, kind: u16, body: &[u8], room: &mut [u8]) -> bo
     if body.len() < 15 {
         return line::cut(to);
     }
-    let n = index(body[14]);
+    let n = usize::from(body[14]);
     if body.len() < 15 + n {
         return line::cut(to);
     }
@@ -112,7 +115,7 @@ fn answered<W: Write>(to: &mut W, kind: u16, body: &[u8], room: &mut [u8]) -> bo
     if kind == 10 {
         return end(to, body, t);
     }
-    call(to, kind, body, &mut room[0..n], t)
+    call(to, kind, body, &mut room[..n], t)
 }
 
 // Reads one record and answers it; false where there is none, or it is cut off.
@@ -126,13 +129,13 @@ fn next<R: Read, W: Write>(input: &mut R, to: &mut W) -> bool {
     }
 }
 
-// A proved loop has to end, and nothing says that the input does: the turns are counted down from more than a run
-// takes.
+// A proved loop has to end, and nothing says that the input does: it has more turns than a run takes.
 fn main(rt: HostRuntime) {
     let mut input = rt.stdin();
     let mut to = rt.stdout();
-    let mut turns = u64::MAX;
-    while 0 < turns && next(&mut input, &mut to) {
-        turns -= 1;
+    for _ in 0..u64::MAX {
+        if !next(&mut input, &mut to) {
+            return;
+        }
     }
 }

@@ -4,9 +4,11 @@ use mathlib.Core.Bool.{Bool, true, false}
 use mathlib.Core.List.{List, [], ◌∷◌, ◌++◌}
 use Prim.Native.Nat.{ℕ, zero, suc, ◌≤◌, ◌<◌}
 use native.Mathlib.Omega.{arith}
+use Rattle.std.proofs.Common.{rules}
 use lib.Dec.{eqb, ltb, leb}
 use borrow.Author.Tests.{leb-true, ltb-true, eqb-true}
-use Rattle.blocks.specs.Faults.{unless, first_of, AllZero, GivenFirst}
+use Rattle.blocks.specs.Faults.{number_of, unless, first_of, AllZero, GivenFirst}
+use Rattle.blocks.specs.declared.fault.Fault.{Fault}
 
 -- a chain that gives nothing: each of its rules holds
 pub all_zero : (ns : List ℕ) → first_of ns ≡ 0 → AllZero ns
@@ -76,3 +78,9 @@ pub given_first : (n : ℕ) (ns : List ℕ) → first_of ns ≡ suc n → GivenF
 given_first n [] e = absurd (omega arith)
 given_first n (zero ∷ ns) e = first_more 0 refl (given_first n ns e)
 given_first n (suc m ∷ ns) e = record { passed = []; others = ns; split = ap (λ (x : ℕ). x ∷ ns) e; holding = tt }
+
+-- ---- the faults' numbers
+
+-- a fault's number is not that of none
+pub no_zero : (f : Fault) → number_of f ≡ 0 → ⊥
+no_zero f e = search rules

@@ -6,11 +6,13 @@ use Prim.Native.Nat.{ℕ, ◌+◌, ◌*◌, ◌/◌, ◌%◌, ◌^◌, ◌≤◌
 use native.Mathlib.Nat.{add-zero}
 use native.Mathlib.Omega.{arith}
 use borrow.Author.Tests.{ne_eqb}
+use Rattle.std.proofs.lemmas.Bool.Decides.{nat_tests}
 use lib.Bits.{bit_and, and_mask}
 use lib.Dec.{eqb}
 use lib.ListN.{length, take, drop, length-take, length-drop}
 use lib.Seq.{take-take, drop-drop}
 use Rattle.bits.specs.Bits.{num, field}
+use Rattle.bits.proofs.Bytes.{length_bits_of}
 use Rattle.bits.proofs.Numbers.{num_shr, num_low, drop_of_take}
 use Rattle.blocks.specs.Widths.{entry_of, width_of}
 use Rattle.blocks.specs.Header.{address_width, address_at, to_in, from_in, message_in, width_in, tail_at}
@@ -18,12 +20,8 @@ use Rattle.blocks.specs.Header.{fragmented_in, body_of}
 use Rattle.blocks.specs.declared.header.Tail.{Tail}
 use Rattle.blocks.specs.declared.header.Addressed.{Addressed}
 
-cond_le : (t : Bool) → cond t 0 24 ≤ 24
-cond_le true = omega arith
-cond_le false = omega arith
-
 pub address_width_le : (kind : ℕ) → address_width kind ≤ 24
-address_width_le kind = cond_le (eqb kind 2)
+address_width_le kind = grind (arith, nat_tests)
 
 -- an address takes 2 to 26 bits
 pub next_le : (at : ℕ) (b : List Bool) {d : Addressed} → d ≡ address_at at b → d.next ≤ at + 26
@@ -67,6 +65,9 @@ module _ (at : ℕ) (b : List Bool) (x : ℕ) (h : at + 26 ≤ length b) (e : x 
   address_there k =
       let n : at + 2 + 24 ≡ at + 26 = omega arith in
       rw (and_mask x 24, ssi_in, kind_in_lem, ne_eqb (field at 2 b) 2 (rw kind_in_lem at k), n) refl
+
+-- for `address_at`
+pub ruleset addresses = (address_absent, address_there, length_bits_of)
 
 pub body_read : (b : List Bool) (fill f count countdown : ℕ) (t : Tail)
     → fill ≡ field 10 1 b → f ≡ field 11 1 b → count ≡ field 12 (4 * f) b → countdown ≡ field (12 + 4 * f) 2 b

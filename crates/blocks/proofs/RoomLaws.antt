@@ -1,7 +1,7 @@
 -- The laws of the DM-SDU's room. Assumes nothing.
 use mathlib.Core.Path.{◌≡◌, refl, sym, ap}
 use mathlib.Core.Bool.{Bool, true, false, cond}
-use mathlib.Core.List.{List}
+use mathlib.Core.List.{List, [], ◌∷◌}
 use mathlib.Core.Option.{Option, none, some}
 use Prim.Native.Nat.{ℕ, ◌+◌, ◌≤◌, ◌<◌}
 use native.Mathlib.Omega.{arith}
@@ -11,27 +11,19 @@ use lib.Dec.{eqb, ltb}
 use borrow.Author.Tests.{lt-ltb, le-ltb, ltb-true, ltb-false, eqb-true, eqb-false}
 use Rattle.bits.specs.Fill.{found_at, fill_bits, filled, strip}
 use Rattle.bits.proofs.Filling.{strip_filled, filled_none, strip_is, strip_lt}
-use Rattle.bits.specs.declared.Found.TheVariants.{At, Nothing}
+use Rattle.std.specs.Prelude.{Result, IfOk}
+use Rattle.std.specs.Option.{ok_or}
+use Rattle.blocks.specs.declared.fault.Fault.{Fault}
+use Rattle.blocks.specs.declared.fault.Fault.TheVariants.{Fill}
+use Rattle.blocks.specs.Faults.{refusal, unless, first_of}
 use Rattle.blocks.specs.Sdu.{unfilled, sdu_of, fill_told, is_there, bits_of_message}
 
--- a room without fill ends where it ends
-pub whole_room : (from to : ℕ) (b : List Bool) → from ≤ to → to ≤ length b
-    → At to ≡ found_at from (some (slice from to b))
+-- where fill is told of, the place that is found is the end of the message, and none is its fault
+pub found_end : (from : ℕ) (o : Option (List Bool)) {r : Result ℕ Fault} → r ≡ ok_or (found_at from o) Fill
+    → (refusal r ≡ first_of (unless (is_there o) 11 ∷ [])) × IfOk r (λ n. n ≡ from + length (bits_of_message o))
 unfolding found_at
-whole_room from to b h l =
-    let e : to ≡ from + length (slice from to b) = rw (length-slice from to b l) (omega arith) in ap At e
-
--- a place that was found is the end of the message
-pub found_some : (from end : ℕ) (o : Option (List Bool)) → found_at from o ≡ At end
-    → (is_there o ≡ true) × (end ≡ from + length (bits_of_message o))
-unfolding found_at
-found_some from end none e = let z : ◌≡◌ {A = ℕ} 0 1 = cc in absurd (omega arith)
-found_some from end (some m) e = (refl, cc)
-
-pub found_nothing : (from : ℕ) (o : Option (List Bool)) → found_at from o ≡ Nothing → is_there o ≡ false
-unfolding found_at
-found_nothing from none e = refl
-found_nothing from (some m) e = let z : ◌≡◌ {A = ℕ} 0 1 = cc in absurd (omega arith)
+found_end from none e = rw e (refl, tt)
+found_end from (some m) e = rw e (refl, refl)
 
 -- ---- fill, added and deleted
 
@@ -57,7 +49,8 @@ stripped_when (some m) room s e = (strip_is room m s, strip_lt room m s)
 -- a room that reads well is its message, filled, and its indication is the one that filling gives
 refill_when : (t : Bool) (fill : ℕ) (room : List Bool) → eqb fill 1 ≡ t → fill ≤ 1 → is_there (unfilled t room) ≡ true
     → (room ≡ filled (length room) (bits_of_message (unfilled t room)))
-    × (fill_told (length room) (bits_of_message (unfilled t room)) ≡ fill) × (length (bits_of_message (unfilled t room)) ≤ length room)
+    × (fill_told (length room) (bits_of_message (unfilled t room)) ≡ fill)
+    × (length (bits_of_message (unfilled t room)) ≤ length room)
 refill_when true fill room e h i =
     let s = stripped_when (strip room) room refl i in
     let f = eqb-true fill 1 e in
@@ -70,7 +63,8 @@ refill_when false fill room e h i =
 
 pub refill : (fill : ℕ) (room : List Bool) → fill ≤ 1 → is_there (sdu_of fill room) ≡ true
     → (room ≡ filled (length room) (bits_of_message (sdu_of fill room)))
-    × (fill_told (length room) (bits_of_message (sdu_of fill room)) ≡ fill) × (length (bits_of_message (sdu_of fill room)) ≤ length room)
+    × (fill_told (length room) (bits_of_message (sdu_of fill room)) ≡ fill)
+    × (length (bits_of_message (sdu_of fill room)) ≤ length room)
 refill fill room h i = refill_when (eqb fill 1) fill room refl h i
 
 -- ---- a room in its block

@@ -49,9 +49,9 @@ field_pad (suc p) (x ∷ xs) k = field_pad p xs k
 width_pad : (e : Entry) (l : List Bool) (k : ℕ) → width_of e (l ++ replicate k false) ≡ width_of e l
 unfolding width_of
 width_pad e l k =
-    let p₁ = field_pad e.flag l k in
-    let a = added (field e.flag 1 l) e.adds in
-    let p₂ = field_pad (a + e.flag2) l k in
+    let p₁ = field_pad e.first.place l k in
+    let a = added (field e.first.place 1 l) e.first.adds in
+    let p₂ = field_pad (a + e.second.place) l k in
     rw (p₁, p₂) refl
 
 -- ---- the run of elements
@@ -94,3 +94,6 @@ module _ (m w e : ℕ) {E : Entry} (p : E ≡ entry_of m) where
         rw (listed, lt-ltb e (2 ^ w) (shifted_out e w z))
         (ap (λ (x : ℕ). eqb x w)
         (s ∙ ap (width_of (entry_of m)) (q ∙ run_bits w e) ∙ width_pad (entry_of m) (bits_n w e) (64 - w)))
+
+-- for `run_fits`
+pub ruleset runs = (run_unlisted, run_wide, run_large, run_read, shifted_out)

@@ -1,6 +1,6 @@
 -- The laws of the table of widths. Assumes nothing.
 use mathlib.Core.Path.{◌≡◌, refl, sym, ap, ap₂, ◌∙◌, subst}
-use mathlib.Core.Bool.{Bool, true, false}
+use mathlib.Core.Bool.{Bool, true, false, ◌&&◌, ◌||◌}
 use mathlib.Core.List.{List, [], ◌∷◌, ◌++◌}
 use Prim.Native.Nat.{ℕ, zero, suc, ◌+◌, ◌≤◌, ◌<◌}
 use native.Mathlib.Omega.{arith}
@@ -13,64 +13,50 @@ use lib.Seq.{drop-drop}
 use Rattle.bits.specs.Bits.{num, field}
 use Rattle.blocks.specs.Widths.{table, no_entry, entry_of, added, added_if, width_of}
 use Rattle.blocks.specs.declared.widths.Entry.{Entry}
-use Rattle.blocks.proofs.Tables.{both, both_left, both_right, either, T_true, at_any}
+use Rattle.blocks.specs.declared.widths.Flag.{Flag}
+use Rattle.bits.proofs.Tests.{both}
+use Rattle.blocks.proofs.Tables.{at_any}
 
--- how far in an entry's flags stand, and how much they add
+-- one of two tests passes, so one of what they say holds
+of_tests : {P Q : Type 0} (s t : Bool) → (s ≡ true → P) → (t ≡ true → Q) → T (s || t) → P ⊎ Q
+of_tests true t p q e = inl (p refl)
+of_tests false true p q e = inr (q refl)
+of_tests false false p q e = absurd e
+
+-- how far in a flag stands in elements of width w, and how much it adds
+pub record NearFlag (w : ℕ) (f : Flag) : Type 0 where
+  pub place : f.place ≤ 10
+  pub adds : f.adds ≤ 12
+  pub within : T (eqb f.adds 0 || ltb f.place w)
+
 pub record Near (e : Entry) : Type 0 where
-  pub flag : e.flag ≤ 10
-  pub adds : e.adds ≤ 12
-  pub flag2 : e.flag2 ≤ 10
-  pub adds2 : e.adds2 ≤ 12
-  pub width : either (leb e.width 21) (eqb e.width 255) ≡ true
-  pub within : either (eqb e.adds 0) (ltb e.flag e.width) ≡ true
-  pub within2 : either (eqb e.adds2 0) (ltb e.flag2 e.width) ≡ true
+  pub first : NearFlag e.width e.first
+  pub second : NearFlag e.width e.second
+  pub width : T (leb e.width 21 || eqb e.width 255)
+
+abbrev near_flag? : ℕ → Flag → Bool
+near_flag? w f = leb f.place 10 && (leb f.adds 12 && (eqb f.adds 0 || ltb f.place w))
 
 abbrev near? : Entry → Bool
-near? e =
-    both (leb e.flag 10)
-    (both (leb e.adds 12)
-    (both (leb e.flag2 10)
-    (both (leb e.adds2 12)
-    (both (either (leb e.width 21) (eqb e.width 255))
-    (both (either (eqb e.adds 0) (ltb e.flag e.width))
-    (either (eqb e.adds2 0) (ltb e.flag2 e.width)))))))
+near? e = near_flag? e.width e.first && (near_flag? e.width e.second && (leb e.width 21 || eqb e.width 255))
+
+near_flag : (w : ℕ) (f : Flag) → T (near_flag? w f) → NearFlag w f
+near_flag w f t =
+    let u = both (leb f.place 10) _ t in
+    let v = both (leb f.adds 12) _ u.1 in
+    record { place = leb→le f.place 10 u.0; adds = leb→le f.adds 12 v.0; within = v.1 }
 
 nearly : (e : Entry) → T (near? e) → Near e
-nearly e t₀ =
-    let t₁ = both_right (leb e.flag 10) _ t₀ in
-    let t₂ = both_right (leb e.adds 12) _ t₁ in
-    let t₃ = both_right (leb e.flag2 10) _ t₂ in
-    let t₄ = both_right (leb e.adds2 12) _ t₃ in
-    let t₅ = both_right (either (leb e.width 21) (eqb e.width 255)) _ t₄ in
-    record {
-      flag = leb→le e.flag 10 (both_left (leb e.flag 10) _ t₀);
-      adds = leb→le e.adds 12 (both_left (leb e.adds 12) _ t₁);
-      flag2 = leb→le e.flag2 10 (both_left (leb e.flag2 10) _ t₂);
-      adds2 = leb→le e.adds2 12 (both_left (leb e.adds2 12) _ t₃);
-      width = T_true _ (both_left (either (leb e.width 21) (eqb e.width 255)) _ t₄);
-      within = T_true _ (both_left (either (eqb e.adds 0) (ltb e.flag e.width)) _ t₅);
-      within2 = T_true _ (both_right (either (eqb e.adds 0) (ltb e.flag e.width)) _ t₅);
-    }
+nearly e t =
+    let u = both (near_flag? e.width e.first) _ t in
+    let v = both (near_flag? e.width e.second) _ u.1 in
+    record { first = near_flag e.width e.first u.0; second = near_flag e.width e.second v.0; width = v.1 }
 
 pub near_entry : (m : ℕ) {e : Entry} → e ≡ entry_of m → Near e
 unfolding entry_of
 near_entry m p = subst Near (sym p) (nearly (entry_of m) (at_any near? table no_entry tt tt m))
 
 -- ---- the codes without entry
-
--- m is none of the n codes from `lo` on, beside what else is known of it
-abbrev pub NoneOf : Type 0 → ℕ → ℕ → ℕ → Type 0
-NoneOf B lo zero m = B
-NoneOf B lo (suc n) m = NoneOf B lo n m × (m ≡ lo + n → ⊥)
-
--- what else is known, and where m stands then
-beside : (B : Type 0) (lo n m : ℕ) → NoneOf B lo n m → B
-beside B lo zero m h = h
-beside B lo (suc n) m h = beside B lo n m h.0
-
-past : (B : Type 0) (lo n m : ℕ) → NoneOf B lo n m → lo ≤ m → lo + n ≤ m
-past B lo zero m h l = omega arith
-past B lo (suc n) m h l = let k = past B lo n m h.0 l in let z : m ≡ lo + n → ⊥ = h.1 in omega arith
 
 -- a run of n entries that are none
 none_in : (xs ys : List Entry) (n m : ℕ) → length xs ≤ m → m < length xs + n
@@ -94,11 +80,8 @@ unlisted_when false true m a b h l =
 unlisted_when false false m a b h l = sym (get_or-eq_default table no_entry (ltb-false m 32 b))
 
 -- the messages are 0 to 3 and 8 to 24
-pub unlisted : (m : ℕ) → NoneOf (NoneOf (Unit {0}) 0 4 m) 8 17 m → no_entry ≡ entry_of m
-unlisted m h =
-    let early = NoneOf (Unit {0}) 0 4 m in
-    unlisted_when (ltb m 8) (ltb m 32) m refl refl (past (Unit {0}) 0 4 m (beside early 8 17 m h) (omega arith))
-    (past early 8 17 m h)
+pub unlisted : (m : ℕ) → 4 ≤ m → (8 ≤ m → 25 ≤ m) → no_entry ≡ entry_of m
+unlisted m h l = unlisted_when (ltb m 8) (ltb m 32) m refl refl h l
 
 -- ---- what flags add
 
@@ -106,27 +89,24 @@ added_if_le : (t : Bool) (n : ℕ) → added_if t n ≤ n
 added_if_le true n = omega arith
 added_if_le false n = omega arith
 
-pub added_le : {a : ℕ} (flag n : ℕ) → a ≡ added flag n → a ≤ n
+added_le : {a : ℕ} (flag n : ℕ) → a ≡ added flag n → a ≤ n
 added_le flag n e = rw e (added_if_le (eqb flag 1) n)
 
 -- an entry's width is at most 21, or the mark's
-either_le : (t u : Bool) (w : ℕ) → leb w 21 ≡ t → eqb w 255 ≡ u → either t u ≡ true → (w ≤ 21) ⊎ (w ≡ 255)
-either_le true u w a b e = inl (leb-true w 21 a)
-either_le false true w a b e = inr (eqb-true w 255 b)
-either_le false false w a b e = let z : ◌≡◌ {A = ℕ} 0 1 = cc in absurd (omega arith)
-
 entry_width : (e : Entry) → Near e → (e.width ≤ 21) ⊎ (e.width ≡ 255)
-entry_width e s = either_le (leb e.width 21) (eqb e.width 255) e.width refl refl s.width
+entry_width e s = of_tests (leb e.width 21) (eqb e.width 255) (leb-true e.width 21) (eqb-true e.width 255) s.width
 
 -- flags add at most 24 bits
 width_range : (e : Entry) (run : List Bool) → Near e → (e.width ≤ width_of e run) × (width_of e run ≤ e.width + 24)
 unfolding width_of
 width_range e run s =
-    let a = added (field e.flag 1 run) e.adds in
+    let f = e.first in
+    let g = e.second in
+    let a = added (field f.place 1 run) f.adds in
     omega (
       arith,
-      added_le {a = a} (field e.flag 1 run) e.adds refl,
-      added_le {a = added (field (a + e.flag2) 1 run) e.adds2} (field (a + e.flag2) 1 run) e.adds2 refl,
+      added_le {a = a} (field f.place 1 run) f.adds refl,
+      added_le {a = added (field (a + g.place) 1 run) g.adds} (field (a + g.place) 1 run) g.adds refl,
     )
 
 pub width_le_279 : {w : ℕ} (m : ℕ) (run : List Bool) → w ≡ width_of (entry_of m) run → w ≤ 279
@@ -156,18 +136,22 @@ field_drop : (at p : ℕ) (b : List Bool) → field (at + p) 1 b ≡ field p 1 (
 field_drop at p b = ap (λ (l : List Bool). num (take 1 l)) (sym (drop-drop p at b))
 
 -- what the code makes of an entry and its two flags
-pub width_read : (m at : ℕ) (b : List Bool) (e : Entry) (f₁ a₁ f₂ a₂ : ℕ) → e ≡ entry_of m
-    → f₁ ≡ field (at + e.flag) 1 b → a₁ ≡ added f₁ e.adds → f₂ ≡ field (at + (a₁ + e.flag2)) 1 b
-    → a₂ ≡ added f₂ e.adds2
+pub width_read : (m at : ℕ) (b : List Bool) (e : Entry) (a₁ a₂ : ℕ) → e ≡ entry_of m
+    → a₁ ≡ added (field (at + e.first.place) 1 b) e.first.adds
+    → a₂ ≡ added (field (at + a₁ + e.second.place) 1 b) e.second.adds
     → e.width + a₁ + a₂ ≡ width_of (entry_of m) (drop at b)
 unfolding width_of
-width_read m at b e f₁ a₁ f₂ a₂ p q₁ r₁ q₂ r₂ =
-    let s₁ : a₁ ≡ added (field e.flag 1 (drop at b)) e.adds =
-    r₁ ∙ ap (λ (x : ℕ). added x e.adds) (q₁ ∙ field_drop at e.flag b) in
-    let s₂ : a₂ ≡ added (field (a₁ + e.flag2) 1 (drop at b)) e.adds2 =
-    r₂ ∙ ap (λ (x : ℕ). added x e.adds2) (q₂ ∙ field_drop at (a₁ + e.flag2) b) in
+width_read m at b e a₁ a₂ p q r =
+    let f = e.first in
+    let g = e.second in
+    let there : at + a₁ + g.place ≡ at + (a₁ + g.place) = omega arith in
+    let s₁ : a₁ ≡ added (field f.place 1 (drop at b)) f.adds =
+    q ∙ ap (λ (x : ℕ). added x f.adds) (field_drop at f.place b) in
+    let s₂ : a₂ ≡ added (field (a₁ + g.place) 1 (drop at b)) g.adds =
+    r ∙ ap (λ (x : ℕ). added (field x 1 b) g.adds) there
+    ∙ ap (λ (x : ℕ). added x g.adds) (field_drop at (a₁ + g.place) b) in
     ap₂ (λ (x y : ℕ). e.width + x + y) s₁
-    (s₂ ∙ ap (λ (x : ℕ). added (field (x + e.flag2) 1 (drop at b)) e.adds2) s₁)
+    (s₂ ∙ ap (λ (x : ℕ). added (field (x + g.place) 1 (drop at b)) g.adds) s₁)
     ∙ ap (λ (x : Entry). width_of x (drop at b)) p
 
 -- ---- what follows the elements does not count
@@ -182,10 +166,8 @@ added_none true = refl
 added_none false = refl
 
 -- a flag that adds something stands within the entry's width
-flag_when : (s t : Bool) (p a w : ℕ) → eqb a 0 ≡ s → ltb p w ≡ t → either s t ≡ true → (a ≡ 0) ⊎ (p < w)
-flag_when true t p a w x y e = inl (eqb-true a 0 x)
-flag_when false true p a w x y e = inr (ltb-true p w y)
-flag_when false false p a w x y e = let z : ◌≡◌ {A = ℕ} 0 1 = cc in absurd (omega arith)
+flag_when : (p a w : ℕ) → T (eqb a 0 || ltb p w) → (a ≡ 0) ⊎ (p < w)
+flag_when p a w = of_tests (eqb a 0) (ltb p w) (eqb-true a 0) (ltb-true p w)
 
 added_in : (p a : ℕ) (l rest : List Bool) → (a ≡ 0) ⊎ (p < length l)
     → added (field p 1 (l ++ rest)) a ≡ added (field p 1 l) a
@@ -198,23 +180,25 @@ module _ (m : ℕ) (l rest : List Bool) where
   e = entry_of m
 
   first_same : e.width ≤ length l
-      → added (field e.flag 1 (l ++ rest)) e.adds ≡ added (field e.flag 1 l) e.adds
+      → added (field e.first.place 1 (l ++ rest)) e.first.adds ≡ added (field e.first.place 1 l) e.first.adds
   first_same h =
+      let f = e.first in
       let s = near_entry m {e = e} refl in
-      added_in e.flag e.adds l rest
+      added_in f.place f.adds l rest
       (⊎_elim inl (λ p. inr (omega arith))
-      (flag_when (eqb e.adds 0) (ltb e.flag e.width) e.flag e.adds e.width refl refl s.within))
+      (flag_when f.place f.adds e.width s.first.within))
 
-  same_width : e.width + added (field e.flag 1 l) e.adds ≤ length l → width_of e (l ++ rest) ≡ width_of e l
+  same_width : e.width + added (field e.first.place 1 l) e.first.adds ≤ length l
+      → width_of e (l ++ rest) ≡ width_of e l
   unfolding width_of
   same_width h =
+      let g = e.second in
       let s = near_entry m {e = e} refl in
-      let a = added (field e.flag 1 l) e.adds in
-      let second : added (field (a + e.flag2) 1 (l ++ rest)) e.adds2 ≡ added (field (a + e.flag2) 1 l) e.adds2 =
-      added_in (a + e.flag2) e.adds2 l rest
+      let a = added (field e.first.place 1 l) e.first.adds in
+      let second : added (field (a + g.place) 1 (l ++ rest)) g.adds ≡ added (field (a + g.place) 1 l) g.adds =
+      added_in (a + g.place) g.adds l rest
       (⊎_elim inl (λ p. inr (omega arith))
-      (flag_when (eqb e.adds2 0) (ltb e.flag2 e.width) e.flag2 e.adds2 e.width refl refl
-      s.within2)) in
+      (flag_when g.place g.adds e.width s.second.within)) in
       rw (first_same (omega arith), second) refl
 
   -- so it does where its length is that width, with or without what follows

@@ -39,7 +39,12 @@ refused_block fault = record { fault = fault; last = 0; first = 0; bits = 0 }
 
 abbrev pub continuation_of : List Bool → Continuation
 continuation_of b =
-    record { fault = 0; last = element continuation_layout 1 b; first = 4; bits = length (bits_of_message (block_message b)) }
+    record {
+      fault = 0;
+      last = element continuation_layout 1 b;
+      first = 4;
+      bits = length (bits_of_message (block_message b));
+    }
 
 abbrev pub answered : ℕ → Continuation → Continuation
 answered zero r = r

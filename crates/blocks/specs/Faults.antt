@@ -2,8 +2,26 @@
 use Rattle.std.specs.Prelude.{◌≡◌, Bool, true, false, List, [], ◌∷◌, ◌++◌, ℕ, zero, suc, Result, Ok, Err}
 use Rattle.blocks.specs.declared.fault.Fault.{Fault}
 use Rattle.blocks.specs.declared.fault.Fault.TheVariants.{
-  Length, Pad, System, SyncType, Communication, Encryption, Frame, AddressType, MessageType, Count,
-  Fill, PduType, Range, TooLong, ReportFrame, ReportSlot, Buffer, Place, NotSdsTl, TooShort,
+  Length,
+  Pad,
+  System,
+  SyncType,
+  Communication,
+  Encryption,
+  Frame,
+  AddressType,
+  MessageType,
+  Count,
+  Fill,
+  PduType,
+  Range,
+  TooLong,
+  ReportFrame,
+  ReportSlot,
+  Buffer,
+  Place,
+  NotSdsTl,
+  TooShort,
 }
 
 -- The faults' numbers.

@@ -5,15 +5,16 @@ use Rattle.blocks.specs.declared.widths.Entry.{Entry}
 
 -- Elements of one width.
 abbrev pub fixed : ℕ → Entry
-fixed w = record { width = w; flag = 0; adds = 0; flag2 = 0; adds2 = 0 }
+fixed w = record { width = w; first = record { place = 0; adds = 0 }; second = record { place = 0; adds = 0 } }
 
 -- An element that hangs on a flag: where the bit at place p is 1, it adds a bits.
 abbrev pub flagged : ℕ → ℕ → ℕ → Entry
-flagged w p a = record { width = w; flag = p; adds = a; flag2 = 0; adds2 = 0 }
+flagged w p a = record { width = w; first = record { place = p; adds = a }; second = record { place = 0; adds = 0 } }
 
 -- Two such; the second flag's place is counted without what the first adds.
 abbrev pub flagged_twice : ℕ → ℕ → ℕ → ℕ → ℕ → Entry
-flagged_twice w p a p2 a2 = record { width = w; flag = p; adds = a; flag2 = p2; adds2 = a2 }
+flagged_twice w p a p2 a2 =
+    record { width = w; first = record { place = p; adds = a }; second = record { place = p2; adds = a2 } }
 
 -- A code without an entry.
 abbrev pub no_entry : Entry
@@ -69,8 +70,8 @@ added flag n = added_if (eqb flag 1) n
 -- The width of the elements that start this string: its flags name the case.
 unfoldable pub width_of : Entry → List Bool → ℕ
 width_of e run =
-    let a = added (field e.flag 1 run) e.adds in
-    e.width + a + added (field (a + e.flag2) 1 run) e.adds2
+    let a = added (field e.first.place 1 run) e.first.adds in
+    e.width + a + added (field (a + e.second.place) 1 run) e.second.adds
 
 -- Whether a run of elements is one that the table has: its width is that of the case that its own flags name, and its
 -- number fits. A message type without entry is not tested.

@@ -1,6 +1,6 @@
 // Why a call is refused, or a block counts as nothing heard.
 ghost use Rattle.std.specs.Prelude.{◌≡◌};
-ghost use Rattle.blocks.specs.Faults.{number_of, refusal};
+ghost use Rattle.blocks.specs.Faults.{number_of};
 
 // The faults, by their numbers; 0 is the number of none.
 #[derive(Clone, Copy, PartialEq, Eq)]
@@ -67,60 +67,10 @@ pub enum Fault {
 }
 
 impl Fault {
-    pub const LENGTH: u8 = 1;
-
-    pub const PAD: u8 = 2;
-
-    pub const SYSTEM: u8 = 3;
-
-    pub const SYNC_TYPE: u8 = 4;
-
-    pub const COMMUNICATION: u8 = 5;
-
-    pub const ENCRYPTION: u8 = 6;
-
-    pub const FRAME: u8 = 7;
-
-    pub const ADDRESS_TYPE: u8 = 8;
-
-    pub const MESSAGE_TYPE: u8 = 9;
-
-    pub const COUNT: u8 = 10;
-
-    pub const FILL: u8 = 11;
-
-    pub const PDU_TYPE: u8 = 12;
-
-    pub const RANGE: u8 = 13;
-
-    pub const TOO_LONG: u8 = 14;
-
-    pub const REPORT_FRAME: u8 = 15;
-
-    pub const REPORT_SLOT: u8 = 16;
-
-    pub const BUFFER: u8 = 17;
-
-    pub const PLACE: u8 = 18;
-
-    pub const NOT_SDS_TL: u8 = 21;
-
-    pub const TOO_SHORT: u8 = 22;
-
     // Its number, as answers have it.
     pub fn number(self) -> u8
         ensures { result ≡ number_of self }
     {
         self as u8
-    }
-}
-
-// The number of a test's outcome: that of the fault, 0 where there is none.
-pub fn refusal(tested: Result<(), Fault>) -> u8
-    ensures { result ≡ refusal tested }
-{
-    match tested {
-        Ok(()) => 0,
-        Err(fault) => fault.number(),
     }
 }

@@ -1,20 +1,23 @@
 // SCH/H with its SCH/S: a header.
-ghost use Rattle.std.specs.Prelude.{◌≡◌, ◌+◌, ◌*◌, ◌≤◌, length};
+ghost use Rattle.std.specs.Prelude.{◌≡◌, ◌+◌, ◌*◌, ◌≤◌, ◌++◌, length, IfOk};
 ghost use Rattle.bits.specs.Bits.{bits_of, Inside};
-ghost use Rattle.blocks.specs.Faults.{first_of};
+ghost use Rattle.blocks.specs.Faults.{number_of, refusal, first_of};
+ghost use Rattle.blocks.specs.Sdu.{bits_of_message};
+ghost use Rattle.blocks.specs.Sync.{sync_of, sync_checks};
 ghost use Rattle.blocks.specs.Header.{address_width, address_at, tail_at, tail_rules, fields_with, shape, sdu_at};
-ghost use Rattle.blocks.specs.Header.{body_of, body_rules, no_fields, refused_header, read_body, read_header};
-ghost use Rattle.blocks.specs.Header.{read_reported};
+ghost use Rattle.blocks.specs.Header.{body_of, message_of_header, body_checks, place_rules};
+ghost use Rattle.blocks.specs.Header.{no_fields, refused_header, read_body, read_header, read_reported};
 
 use crate::fault::Fault;
+use crate::sdu::sdu_end;
 use crate::sizes::{SchH, Width};
-use crate::sync::Sync;
+use crate::sync::{Checked, Sync, checked_blocks};
 use crate::widths::NO_ENTRY;
-use bits::Found;
 
 // An address element: its type, and the SSI, 0 where it is absent.
+// Kept: the type is a number in C too (`pierstrand.h`).
 #[repr(C)]
-#[derive(Clone, Copy)]
+#[derive(Clone, Copy, Default)]
 pub struct Address {
     pub kind: u8,
     pub ssi: u32,
@@ -36,8 +39,9 @@ impl Address {
 
 // What a message's header says of it: addresses, MNI, message type, and the dependent elements as one run of bits with
 // its width.
+// Kept: the width stands beside the elements in C too.
 #[repr(C)]
-#[derive(Clone, Copy)]
+#[derive(Clone, Copy, Default)]
 pub struct Fields {
     pub destination: Address,
     pub source: Address,
@@ -49,8 +53,9 @@ pub struct Fields {
 
 // A header that was read; where it was refused, all but the fault is 0. `fragmented` is the flag, `count` the number of
 // SCH/F slots, `first` the DM-SDU's first bit in SCH/H and `bits` the number of its message bits.
+// Kept: C has this struct, with a number for the fault and for the flag.
 #[repr(C)]
-#[derive(Clone, Copy)]
+#[derive(Clone, Copy, Default)]
 pub struct Header {
     pub fault: u8,
     pub sync: Sync,
@@ -66,33 +71,15 @@ pub struct Header {
 pub fn no_fields() -> Fields
     ensures { result ≡ no_fields }
 {
-    Fields {
-        destination: Address { kind: 0, ssi: 0 },
-        source: Address { kind: 0, ssi: 0 },
-        mni: 0,
-        message: 0,
-        width: 0,
-        elements: 0,
-    }
+    Fields::default()
 }
 
-fn refused(fault: u8) -> Header
-    ensures { result ≡ refused_header fault }
+fn refused(fault: Fault) -> Header
+    ensures { result ≡ refused_header (number_of fault) }
 {
     Header {
-        fault,
-        sync: Sync {
-            system: 0,
-            usage: 0,
-            slot: 0,
-            frame: 0,
-        },
-        fragmented: 0,
-        count: 0,
-        countdown: 0,
-        fields: no_fields(),
-        first: 0,
-        bits: 0,
+        fault: fault.number(),
+        ..Header::default()
     }
 }
 
@@ -107,18 +94,21 @@ pub fn address_width(kind: u8) -> usize
     }
 }
 
-// An address as it stands, and the bit after it.
+// An address as it stands, and the bit after it. Kept: a block and a bit of it, here and below, as `bits` takes them.
 #[derive(Clone, Copy)]
 struct Addressed {
     address: Address,
     next: usize,
 }
 
+#[tactic(auto, using(crate::proofs::HeaderLaws::addresses))]
 fn address_at(h: &[u8], at: usize) -> Addressed
-    requires { (at + 26 ≤ 8 * length h.now) × (at ≤ 4096) }
+    requires lent { at + 26 ≤ 8 * length h.now }
+    requires near { at ≤ 4096 }
     ensures { result ≡ address_at at (bits_of h.now) }
 {
-    let element = bits::get32(h, at, Address::BITS);
+    let element: u32 = bits::get(h, at, Address::BITS);
+    // Kept: `as`, here and where else a number has become small; `try_from` has an error that cannot come.
     let kind = (element >> Width::ADDRESS) as u8;
     if kind == Address::ABSENT {
         return Addressed {
@@ -147,14 +137,16 @@ pub(crate) struct Tail {
 }
 
 // The tail that starts at bit `at` of a lent block.
+#[tactic(auto, using(crate::proofs::HeaderLaws::tail_read, crate::proofs::HeaderLaws::next_le))]
 pub(crate) fn tail_at(h: &[u8], at: usize) -> Tail
-    requires { (at + 104 ≤ 8 * length h.now) × (at ≤ 2048) }
+    requires lent { at + 104 ≤ 8 * length h.now }
+    requires near { at ≤ 2048 }
     ensures { result ≡ tail_at at (bits_of h.now) }
 {
     let d = address_at(h, at);
     let s = address_at(h, d.next);
-    let mni = bits::get32(h, s.next, Width::MNI);
-    let message = bits::get8(h, s.next + Width::MNI, Width::MESSAGE_TYPE);
+    let mni = bits::get(h, s.next, Width::MNI);
+    let message = bits::get(h, s.next + Width::MNI, Width::MESSAGE_TYPE);
     let run = s.next + Width::MNI + Width::MESSAGE_TYPE;
     let width = crate::widths::width_at(h, run, message);
     let destination = d.address;
@@ -170,29 +162,23 @@ pub(crate) fn tail_at(h: &[u8], at: usize) -> Tail
     }
 }
 
-// The first of the faults 8 and 9 that a tail's elements give in a block whose room ends before bit `end`, 0 where they
-// give none.
-pub(crate) fn tail_rules(to: u8, from: u8, width: usize, first: usize, end: usize) -> u8
-    ensures { result ≡ first_of (tail_rules to from width first end) }
+// The first of the faults 8 and 9 that a tail gives in a block whose room ends before bit `end`.
+pub(crate) fn tail_rules(t: Tail, end: usize) -> Result<(), Fault>
+    ensures { refusal result ≡ first_of (tail_rules t.destination.kind t.source.kind t.width t.first end) }
 {
-    if 2 < to {
-        return Fault::ADDRESS_TYPE;
+    if 2 < t.destination.kind || 2 < t.source.kind {
+        return Err(Fault::AddressType);
     }
-    if 2 < from {
-        return Fault::ADDRESS_TYPE;
+    if usize::from(NO_ENTRY) <= t.width || end < t.first {
+        return Err(Fault::MessageType);
     }
-    if (NO_ENTRY as usize) <= width {
-        return Fault::MESSAGE_TYPE;
-    }
-    if end < first {
-        return Fault::MESSAGE_TYPE;
-    }
-    0
+    Ok(())
 }
 
 // A tail's fields.
 pub(crate) fn tail_fields(h: &[u8], t: Tail) -> Fields
-    requires { (t.width ≤ 45) × Inside (length h.now) t.run (t.run + t.width) }
+    requires narrow { t.width ≤ 45 }
+    requires inside { Inside (length h.now) t.run (t.run + t.width) }
     ensures { result ≡ fields_with t (bits_of h.now) }
 {
     let elements = bits::get(h, t.run, t.width);
@@ -203,7 +189,7 @@ pub(crate) fn tail_fields(h: &[u8], t: Tail) -> Fields
         source,
         mni: t.mni,
         message: t.message,
-        width: t.width as u8,
+        width: t.width as u8, // Kept: as in `address_at`
         elements,
     }
 }
@@ -221,7 +207,7 @@ pub fn header_bits(fragmented: u8, to: u8, from: u8, width: u8) -> usize
 {
     let d = address_width(to);
     let s = address_width(from);
-    EVERY + Width::COUNT * (fragmented as usize) + d + s + (width as usize)
+    EVERY + Width::COUNT * usize::from(fragmented) + d + s + usize::from(width)
 }
 
 // SCH/H as it stands, before it is judged.
@@ -234,16 +220,16 @@ struct Body {
     tail: Tail,
 }
 
-fn body_of(h: &[u8]) -> Body
-    requires { length h.now ≡ 16 }
+#[tactic(auto, using(crate::proofs::HeaderLaws::body_read))]
+fn body_of(h: &[u8; SchH::BYTES]) -> Body
     ensures { result ≡ body_of (bits_of h.now) }
 {
-    let fill = bits::get8(h, SchH::FILL, 1);
-    let fragmented = bits::get8(h, SchH::FRAGMENTED, 1);
-    let counted = Width::COUNT * (fragmented as usize);
-    let count = bits::get8(h, SchH::COUNT, counted);
+    let fill = bits::get(h, SchH::FILL, 1);
+    let fragmented = bits::get(h, SchH::FRAGMENTED, 1);
+    let counted = Width::COUNT * usize::from(fragmented);
+    let count = bits::get(h, SchH::COUNT, counted);
     let at = SchH::COUNT + counted;
-    let countdown = bits::get8(h, at, Width::COUNTDOWN);
+    let countdown = bits::get(h, at, Width::COUNTDOWN);
     let tail = tail_at(h, at + Width::COUNTDOWN);
     Body {
         fill,
@@ -254,79 +240,73 @@ fn body_of(h: &[u8]) -> Body
     }
 }
 
-// The first of the faults 10, 8 and 9 that these elements give, 0 where they give none.
-fn body_rules(fragmented: u8, count: u8, to: u8, from: u8, width: usize, first: usize) -> u8
-    ensures { result ≡ first_of (body_rules fragmented count to from width first) }
+// Where the message ends in SCH/H, or the first of the faults from 10 on.
+fn body_end(h: &[u8; SchH::BYTES], b: Body) -> Result<usize, Fault>
+    requires { b ≡ body_of (bits_of h.now) }
+    ensures faults { refusal result ≡ first_of (body_checks (bits_of h.now)) }
+    ensures end { IfOk result (λ n. n ≡ b.tail.first + length (bits_of_message (message_of_header b (bits_of h.now)))) }
 {
-    if count < fragmented {
-        return Fault::COUNT;
+    if b.count < b.fragmented {
+        return Err(Fault::Count);
     }
-    tail_rules(to, from, width, first, SchH::BITS)
+    tail_rules(b.tail, SchH::BITS)?;
+    sdu_end(h, b.fill, b.tail.first, SchH::BITS)
 }
 
-// What follows SCH/S's part: the faults from 10 on, the fields and the DM-SDU. The length is tested so that the
-// compiler, too, knows it.
-fn read_body(sync: Sync, h: &[u8]) -> Header
-    requires { length h.now ≡ 16 }
+// What follows SCH/S's part: the faults from 10 on, the fields and the DM-SDU.
+#[tactic(auto, using(crate::proofs::ReadLaws::bodies))]
+fn read_body(sync: Sync, h: &[u8; SchH::BYTES]) -> Header
     ensures { result ≡ read_body sync (bits_of h.now) }
 {
-    if h.len() != SchH::BYTES {
-        return refused(Fault::LENGTH);
-    }
     let b = body_of(h);
-    let t = b.tail;
-    let fault = body_rules(
-        b.fragmented,
-        b.count,
-        t.destination.kind,
-        t.source.kind,
-        t.width,
-        t.first,
-    );
-    if fault != 0 {
-        return refused(fault);
-    }
-    let Found::At(end) = crate::sdu::sdu_end(h, b.fill, t.first, SchH::BITS) else {
-        return refused(Fault::FILL);
-    };
-    let fields = tail_fields(h, t);
-    Header {
-        fault: 0,
-        sync,
-        fragmented: b.fragmented,
-        count: b.count,
-        countdown: b.countdown,
-        fields,
-        first: t.first,
-        bits: end - t.first,
+    match body_end(h, b) {
+        Err(fault) => refused(fault),
+        Ok(end) => Header {
+            fault: 0,
+            sync,
+            fragmented: b.fragmented,
+            count: b.count,
+            countdown: b.countdown,
+            fields: tail_fields(h, b.tail),
+            first: b.tail.first,
+            bits: end - b.tail.first,
+        },
     }
 }
 
 // Reads a header from its two lent blocks; copies nothing.
+#[tactic(auto, using(crate::proofs::ReadLaws::headers))]
 pub fn read_header(s: &[u8], h: &[u8]) -> Header
     ensures { result ≡ read_header s.now h.now }
 {
-    let fault = crate::sync::sync_fault(s, h);
-    if fault != 0 {
-        return refused(fault);
+    match checked_blocks(s, h) {
+        Ok(x) => read_body(x.sync, x.h),
+        Err(fault) => refused(fault),
     }
-    read_body(crate::sync::sync_of(s), h)
+}
+
+// The same of a report's blocks: their frame and slot are to be the report's.
+#[tactic(auto, using(crate::proofs::FaultLaws::chain_given, crate::proofs::FaultLaws::no_zero))]
+fn reported<'a>(frame: u8, slot: u8, s: &[u8], h: &'a [u8]) -> Result<Checked<'a>, Fault>
+    ensures faults { refusal result
+        ≡ first_of (sync_checks s.now h.now ++ place_rules frame slot (sync_of (bits_of s.now))) }
+    ensures sync { IfOk result (λ x. x.sync ≡ sync_of (bits_of s.now)) }
+    ensures block { IfOk result (λ x. x.h.now ≡ h.now) }
+{
+    let x = checked_blocks(s, h)?;
+    if x.sync.frame != frame || x.sync.slot + 1 != slot {
+        return Err(Fault::Place);
+    }
+    Ok(x)
 }
 
 // Reads a header as a report brings it: the block's frame and slot are to be the report's.
+#[tactic(auto, using(crate::proofs::ReadLaws::reports))]
 pub fn read_reported(frame: u8, slot: u8, s: &[u8], h: &[u8]) -> Header
     ensures { result ≡ read_reported frame slot s.now h.now }
 {
-    let fault = crate::sync::sync_fault(s, h);
-    if fault != 0 {
-        return refused(fault);
+    match reported(frame, slot, s, h) {
+        Ok(x) => read_body(x.sync, x.h),
+        Err(fault) => refused(fault),
     }
-    let sync = crate::sync::sync_of(s);
-    if sync.frame != frame {
-        return refused(Fault::PLACE);
-    }
-    if sync.slot + 1 != slot {
-        return refused(Fault::PLACE);
-    }
-    read_body(sync, h)
 }

@@ -4,6 +4,8 @@
 pub const PAD: usize = 4;
 
 // SCH/S: its lent bytes, these in bits, and how many of the bits are the block's; the others are pad.
+// Kept: the three constants stand in each block, since an array's length and another constant cannot be worked out from
+// a trait's or a generic block's constant (tried: it is refused).
 #[derive(Clone, Copy)]
 pub struct SchS {}
 

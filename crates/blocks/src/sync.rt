@@ -1,7 +1,7 @@
 // SCH/S: the DMAC-SYNC PDU's first 60 bits.
-ghost use Rattle.std.specs.Prelude.{◌≡◌, length};
+ghost use Rattle.std.specs.Prelude.{◌≡◌, IfOk};
 ghost use Rattle.bits.specs.Bits.{bits_of};
-ghost use Rattle.blocks.specs.Faults.{first_of};
+ghost use Rattle.blocks.specs.Faults.{first_of, refusal};
 ghost use Rattle.blocks.specs.Sync.{sync_of, sync_rules, sync_checks};
 
 use crate::fault::Fault;
@@ -9,7 +9,7 @@ use crate::sizes::{PAD, SchH, SchS, Width};
 
 // Its fields, but for the fixed ones. The slot is as coded in 9.3.25: 0 is slot 1.
 #[repr(C)]
-#[derive(Clone, Copy)]
+#[derive(Clone, Copy, Default)]
 pub struct Sync {
     pub system: u8,
     pub usage: u8,
@@ -17,7 +17,7 @@ pub struct Sync {
     pub frame: u8,
 }
 
-// The first of the faults 2 to 7 that these elements give, 0 where they give none.
+// The first of the faults 2 to 7 that these elements give. Kept: seven numbers, as the definition takes them.
 fn sync_rules(
     pad: u8,
     other: u8,
@@ -26,73 +26,74 @@ fn sync_rules(
     communication: u8,
     encryption: u8,
     frame: u8,
-) -> u8
-    ensures { result ≡ first_of (sync_rules pad other system pdu communication encryption frame) }
+) -> Result<(), Fault>
+    ensures { refusal result ≡ first_of (sync_rules pad other system pdu communication encryption frame) }
 {
-    if pad != 0 {
-        return Fault::PAD;
-    }
-    if other != 0 {
-        return Fault::PAD;
+    if pad != 0 || other != 0 {
+        return Err(Fault::Pad);
     }
     if system < 10 {
-        return Fault::SYSTEM;
+        return Err(Fault::System);
     }
     if pdu != 0 {
-        return Fault::SYNC_TYPE;
+        return Err(Fault::SyncType);
     }
     if communication != 0 {
-        return Fault::COMMUNICATION;
+        return Err(Fault::Communication);
     }
     if encryption != 0 {
-        return Fault::ENCRYPTION;
+        return Err(Fault::Encryption);
     }
-    if frame < 1 {
-        return Fault::FRAME;
+    if frame < 1 || 18 < frame {
+        return Err(Fault::Frame);
     }
-    if 18 < frame {
-        return Fault::FRAME;
-    }
-    0
+    Ok(())
 }
 
-// The first of the faults 1 to 7 of the two blocks of a header, 0 where they give none.
-pub(crate) fn sync_fault(s: &[u8], h: &[u8]) -> u8
-    ensures { result ≡ first_of (sync_checks s.now h.now) }
+// The fields of a header's SCH/S, and its SCH/H.
+#[derive(Clone, Copy)]
+pub(crate) struct Checked<'a> {
+    pub(crate) sync: Sync,
+    pub(crate) h: &'a [u8; SchH::BYTES],
+}
+
+// A header's two lent blocks, or the first of the faults 1 to 7 that they give.
+#[tactic(auto, unfolding(crate::specs::Sync::sync_checks, crate::specs::Sync::sync_of))]
+pub(crate) fn checked_blocks<'a>(s: &[u8], h: &'a [u8]) -> Result<Checked<'a>, Fault>
+    ensures faults { refusal result ≡ first_of (sync_checks s.now h.now) }
+    ensures sync { IfOk result (λ x. x.sync ≡ sync_of (bits_of s.now)) }
+    ensures block { IfOk result (λ x. x.h.now ≡ h.now) }
 {
-    if s.len() != SchS::BYTES {
-        return Fault::LENGTH;
-    }
-    if h.len() != SchH::BYTES {
-        return Fault::LENGTH;
-    }
-    let pad = bits::get8(s, SchS::BITS, PAD);
-    let other = bits::get8(h, SchH::BITS, PAD);
-    let system = bits::get8(s, SchS::SYSTEM, Width::SYSTEM);
-    let pdu = bits::get8(s, SchS::SYNC_TYPE, Width::SYNC_TYPE);
-    let communication = bits::get8(s, SchS::COMMUNICATION, Width::COMMUNICATION);
-    let encryption = bits::get8(s, SchS::ENCRYPTION, Width::ENCRYPTION);
-    let frame = bits::get8(s, SchS::FRAME, Width::FRAME);
-    sync_rules(pad, other, system, pdu, communication, encryption, frame)
+    let (Some(s), Some(h)) = (s.as_array(), h.as_array()) else {
+        return Err(Fault::Length);
+    };
+    let pad = bits::get(s, SchS::BITS, PAD);
+    let other = bits::get(h, SchH::BITS, PAD);
+    let pdu = bits::get(s, SchS::SYNC_TYPE, Width::SYNC_TYPE);
+    let communication = bits::get(s, SchS::COMMUNICATION, Width::COMMUNICATION);
+    let encryption = bits::get(s, SchS::ENCRYPTION, Width::ENCRYPTION);
+    let sync = sync_of(s);
+    sync_rules(
+        pad,
+        other,
+        sync.system,
+        pdu,
+        communication,
+        encryption,
+        sync.frame,
+    )?;
+    Ok(Checked { sync, h })
 }
 
-// The fields as they stand. The length is tested so that the compiler, too, knows it.
-pub(crate) fn sync_of(s: &[u8]) -> Sync
-    requires { length s.now ≡ 8 }
+// The fields as they stand.
+#[tactic(auto, unfolding(crate::specs::Sync::sync_of))]
+pub(crate) fn sync_of(s: &[u8; SchS::BYTES]) -> Sync
     ensures { result ≡ sync_of (bits_of s.now) }
 {
-    if s.len() != SchS::BYTES {
-        return Sync {
-            system: 0,
-            usage: 0,
-            slot: 0,
-            frame: 0,
-        };
-    }
     Sync {
-        system: bits::get8(s, SchS::SYSTEM, Width::SYSTEM),
-        usage: bits::get8(s, SchS::USAGE, Width::USAGE),
-        slot: bits::get8(s, SchS::SLOT, Width::SLOT),
-        frame: bits::get8(s, SchS::FRAME, Width::FRAME),
+        system: bits::get(s, SchS::SYSTEM, Width::SYSTEM),
+        usage: bits::get(s, SchS::USAGE, Width::USAGE),
+        slot: bits::get(s, SchS::SLOT, Width::SLOT),
+        frame: bits::get(s, SchS::FRAME, Width::FRAME),
     }
 }

@@ -1,20 +1,25 @@
 // The table of widths: the message dependent elements of all 32 message types.
 ghost use Rattle.std.specs.Prelude.{◌≡◌, ◌+◌, ◌*◌, ◌≤◌, length, drop};
-ghost use Rattle.bits.specs.Bits.{bits_of};
+ghost use Rattle.bits.specs.Bits.{bits_of, field, Inside};
 ghost use Rattle.blocks.specs.Widths.{fixed, flagged, flagged_twice, entry_of, added, width_of, run_fits};
 
-// The width of a message's elements with no flag set; the place of a flag in them and the bits that an element adds
-// which hangs on it, twice. The second flag's place is counted without what the first adds.
+// A flag: its place among a message's elements, and the bits that an element adds which hangs on it.
+#[derive(Clone, Copy)]
+pub struct Flag {
+    pub place: u8,
+    pub adds: u8,
+}
+
+// The width of a message's elements with no flag set, and two flags; one that adds nothing counts as none. The second's
+// place is counted without what the first adds.
 #[derive(Clone, Copy)]
 pub struct Entry {
     pub width: u8,
-    pub flag: u8,
-    pub adds: u8,
-    pub flag2: u8,
-    pub adds2: u8,
+    pub first: Flag,
+    pub second: Flag,
 }
 
-// The width that marks a code without an entry.
+// The width that marks a code without an entry. Kept: theorems speak of `entry_of` and of this width.
 pub const NO_ENTRY: u8 = 255;
 
 // Elements of one width.
@@ -25,26 +30,28 @@ fn fixed(width: u8) -> Entry
 }
 
 // An element that hangs on a flag.
-fn flagged(width: u8, flag: u8, adds: u8) -> Entry
-    ensures { result ≡ flagged width flag adds }
+fn flagged(width: u8, place: u8, adds: u8) -> Entry
+    ensures { result ≡ flagged width place adds }
 {
-    flagged_twice(width, flag, adds, 0, 0)
+    flagged_twice(width, place, adds, 0, 0)
 }
 
 // Two such.
-fn flagged_twice(width: u8, flag: u8, adds: u8, flag2: u8, adds2: u8) -> Entry
-    ensures { result ≡ flagged_twice width flag adds flag2 adds2 }
+fn flagged_twice(width: u8, place: u8, adds: u8, place2: u8, adds2: u8) -> Entry
+    ensures { result ≡ flagged_twice width place adds place2 adds2 }
 {
     Entry {
         width,
-        flag,
-        adds,
-        flag2,
-        adds2,
+        first: Flag { place, adds },
+        second: Flag {
+            place: place2,
+            adds: adds2,
+        },
     }
 }
 
 // The entry of a message type (9.3.19), as 9.4 and 9.5 have its elements.
+// Kept: the type is a number, as C gives it and theorems name it.
 #[tactic(auto, unfolding(crate::specs::Widths::entry_of))]
 pub fn entry_of(message: u8) -> Entry
     ensures { result ≡ entry_of message }
@@ -77,35 +84,44 @@ pub fn entry_of(message: u8) -> Entry
     }
 }
 
-// What a flag adds.
-fn added_by(flag: u8, adds: u8) -> usize
-    ensures { result ≡ added flag adds }
+// What a flag adds, whose place is counted from bit `at`.
+fn added_by(s: &[u8], at: usize, flag: Flag) -> usize
+    requires { Inside (length s.now) (at + flag.place) (at + flag.place + 1) }
+    ensures added { result ≡ added (field (at + flag.place) 1 (bits_of s.now)) flag.adds }
+    ensures few { result ≤ flag.adds }
 {
-    if flag == 1 { adds as usize } else { 0 }
+    if bits::get::<u8>(s, at + usize::from(flag.place), 1) == 1 {
+        usize::from(flag.adds)
+    } else {
+        0
+    }
 }
 
 // The width of a message's elements that start at bit `at`: its flags name the case.
+#[tactic(auto, using(crate::proofs::WidthLaws::width_read))]
 pub(crate) fn width_at(s: &[u8], at: usize, message: u8) -> usize
-    requires { at + 23 ≤ 8 * length s.now × (at ≤ 4096) }
+    requires lent { at + 23 ≤ 8 * length s.now }
+    requires near { at ≤ 4096 }
     ensures { result ≡ width_of (entry_of message) (drop at (bits_of s.now)) }
 {
     let e = entry_of(message);
-    let first = added_by(bits::get8(s, at + (e.flag as usize), 1), e.adds);
-    let second = added_by(bits::get8(s, at + (first + (e.flag2 as usize)), 1), e.adds2);
-    (e.width as usize) + first + second
+    let first = added_by(s, at, e.first);
+    let second = added_by(s, at + first, e.second);
+    usize::from(e.width) + first + second
 }
 
 // No entry's elements have more bits: at most 21, and at most 24 that hang on flags.
 const WIDEST: usize = 45;
 
 // Whether a run of elements is one that the table has for this message type; one without entry is not tested.
+#[tactic(auto, using(crate::proofs::RunLaws::runs))]
 pub fn run_fits(message: u8, width: u8, elements: u64) -> bool
     ensures { result ≡ run_fits message width elements }
 {
     if NO_ENTRY <= entry_of(message).width {
         return true;
     }
-    let w = width as usize;
+    let w = usize::from(width);
     if WIDEST < w {
         return false;
     }

@@ -9,14 +9,14 @@ ghost use Rattle.blocks.specs.Slots.{due_of};
 ghost use Rattle.build.specs.Build.{build_of, out_of};
 ghost use Rattle.reader.specs.Reading.{taken_at, skipped_at, left_of};
 ghost use Rattle.reports.specs.Lent.{lent};
-ghost use Rattle.receiver.specs.View.{fresh_of};
+ghost use Rattle.receiver.specs.View.{fresh_of, replied};
 ghost use Rattle.receiver.specs.Reached.{Reached, Hears};
 ghost use Rattle.transport.specs.Reading.{read_of};
 ghost use Rattle.transport.specs.Building.{sdu_of, out_of as sdu_in};
 ghost use Rattle.bookings.specs.Kept.{bookings_at, Reached as IndexReached};
 ghost use Rattle.bookings.specs.Book.{lent as lentSdu, Books};
 ghost use Rattle.history.specs.Line.{start};
-ghost use Rattle.board.specs.Board.{replied, booked_reply};
+ghost use Rattle.board.specs.Board.{booked_reply};
 
 use blocks::continuation::Continuation;
 use blocks::header::{Fields, Header};
@@ -37,7 +37,7 @@ pub extern "C" fn pierstrand_make_receiver(individual: u32, group: u32, mni: u32
     Receiver::fresh(individual, group, mni)
 }
 
-// Hears a slot report in the receiver where it stands: `Receiver::hear`, and its receiver is stored.
+// Hears a slot report in the receiver where it stands: `Receiver::hear_in_place`.
 #[unsafe(no_mangle)]
 pub extern "C" fn pierstrand_hear(
     r: &mut Receiver,
@@ -52,9 +52,7 @@ pub extern "C" fn pierstrand_hear(
         × Hears r.old (lent frame slot kind blocks.now) (replied r.new result)
         message.old message.new }
 {
-    let h = r.hear(frame, slot, kind, blocks, message);
-    *r = h.receiver;
-    h.answer
+    r.hear_in_place(frame, slot, kind, blocks, message)
 }
 
 // Builds the blocks of the first `n` bits of a message: `build::build`.

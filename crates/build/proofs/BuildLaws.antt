@@ -2,16 +2,17 @@
 use mathlib.Core.Path.{◌≡◌, refl, sym, ap, ap₂, ◌∙◌}
 use mathlib.Core.Bool.{Bool, true, false, cond}
 use mathlib.Core.List.{List, ◌++◌}
-use Prim.Native.Nat.{ℕ, zero, suc, ◌+◌, ◌-◌, ◌*◌, ◌≤◌, min}
+use Prim.Native.Nat.{ℕ, zero, suc, ◌+◌, ◌-◌, ◌*◌, ◌≤◌, ◌<◌, min}
 use native.Mathlib.Omega.{arith}
 use lib.Dec.{eqb, ltb, leb}
 use lib.ListN.{length, take, drop, replicate, length-append, length-take, length-drop, drop_of_length-le}
 use lib.Seq.{take_all, take-length, drop-length, drop-drop}
 use native.Mathlib.Nat.{min-le_left}
-use borrow.Author.Tests.{ne_eqb, leb-true, leb-false}
+use borrow.Author.Tests.{eq-eqb, ne_eqb, leb-true, leb-false}
+use mir.Val.{bool_byte}
 use Rattle.bits.specs.Bits.{bits_n, over}
 use Rattle.bits.specs.Fill.{fill_bits, filled}
-use Rattle.bits.specs.Layout.{pack, AllFit, AllNarrow}
+use Rattle.bits.specs.Layout.{pack, AllFit}
 use Rattle.bits.proofs.Numbers.{bits_n_zero, take_of_drop}
 use Rattle.bits.proofs.Over.{over_over}
 use Rattle.bits.proofs.Filling.{length_fill_bits, length_filled}
@@ -21,9 +22,13 @@ use Rattle.blocks.specs.Continuation.{continuation_parts}
 use Rattle.build.specs.Build.{room_bits, shape_for, header_parts, header_block, continuation_block, last_when}
 use Rattle.build.specs.Build.{continuation_blocks}
 use Rattle.build.specs.Build.{HeaderFits}
-use Rattle.blocks.specs.Header.{header_layout, sdu_at}
-use Rattle.blocks.proofs.HeaderLaws.{address_width_le}
+use Rattle.blocks.specs.Header.{sdu_at}
 use Rattle.blocks.specs.declared.header.Fields.{Fields}
+
+-- a flag, as Rust makes a number of it
+pub flag_number : (b : Bool) → bool_byte b ≡ cond b 1 0
+flag_number true = refl
+flag_number false = refl
 
 -- a part of a message
 pub length_part : (count from : ℕ) (b : List Bool) → from + count ≤ length b → length (take count (drop from b)) ≡ count
@@ -52,9 +57,6 @@ length_room_bits room m h =
 pub told_le : (t : Bool) → cond t 1 0 ≤ 1
 told_le true = omega arith
 told_le false = omega arith
-
-pub fill_flag : {v : ℕ} (count room : ℕ) → v ≡ cond (ltb count room) 1 0 → v ≤ 1
-fill_flag count room e = rw e (told_le (ltb count room))
 
 -- ---- a continuation block
 
@@ -105,13 +107,12 @@ least_when false k l e =
 least : (k : ℕ) (l : List Bool) → (take (min (length l) k) l ≡ take k l) × (drop (min (length l) k) l ≡ drop k l)
 least k l = least_when (leb k (length l)) k l refl
 
-last_is : (k left : ℕ) → left ≡ suc k → cond (eqb left 1) 1 0 ≡ last_when k
-last_is zero left e = rw e refl
-last_is (suc k) left e = rw (ne_eqb left 1 (omega arith)) refl
+last_is : (i blocks k : ℕ) → blocks ≡ i + 1 + k → cond (eqb (i + 1) blocks) 1 0 ≡ last_when k
+last_is i blocks zero e = rw (eq-eqb (i + 1) blocks (omega arith)) refl
+last_is i blocks (suc k) e = rw (ne_eqb (i + 1) blocks (omega arith)) refl
 
-module _ (b : List Bool) (n from count left k last at : ℕ) (e : left ≡ suc k) (q : count ≡ min (n - from) 264)
-    (w : last ≡ cond (eqb left 1) 1 0)
-    (f : from ≤ n) (l : n ≤ length b) where
+module _ (b : List Bool) (n from count i blocks : ℕ) (e : i < blocks) (q : count ≡ min (n - from) 264) (f : from ≤ n)
+    (l : n ≤ length b) where
   abbrev rest : List Bool
   rest = drop from (take n b)
 
@@ -124,22 +125,25 @@ module _ (b : List Bool) (n from count left k last at : ℕ) (e : left ≡ suc k
   rest_rest : drop 264 rest ≡ drop (from + count) (take n b)
   rest_rest = sym (least 264 rest).1 ∙ rw (rest_length, ← q) (drop-drop count from (take n b))
 
-  pub blocks_turn : (old new : List Bool) → at + 272 * left ≤ length old
-      → new ≡ over at (continuation_block last (take count (drop from b))) old
-      → over (at + 272) (continuation_blocks k (drop (from + count) (take n b))) new
-      ≡ over at (continuation_blocks left rest) old
+  -- with one block put, the ones after it are still to come
+  pub blocks_turn : (old new : List Bool) → 192 + 272 * blocks ≤ length old
+      → new ≡ over (192 + 272 * i) (continuation_block (cond (eqb (i + 1) blocks) 1 0) (take count (drop from b))) old
+      → over (192 + 272 * (i + 1)) (continuation_blocks (blocks - (i + 1)) (drop (from + count) (take n b))) new
+      ≡ over (192 + 272 * i) (continuation_blocks (blocks - i) rest) old
   blocks_turn old new h p =
+      let at = 192 + 272 * i in
+      let k = blocks - (i + 1) in
       let m = take count (drop from b) in
-      let x = continuation_block last m in
+      let x = continuation_block (cond (eqb (i + 1) blocks) 1 0) m in
       let lm : length m ≤ 264 = rw (← rest_first) (take_le 264 rest) in
-      let lx : length x ≡ 272 = length_block last m lm in
+      let lx : length x ≡ 272 = length_block (cond (eqb (i + 1) blocks) 1 0) m lm in
       let z = continuation_blocks k (drop (from + count) (take n b)) in
       let lz : length z ≡ 272 * k = length_blocks k (drop (from + count) (take n b)) in
-      let g : continuation_blocks left rest ≡ x ++ z = rw e (rw (rest_first, rest_rest, ← last_is k left e, ← w) refl) in
-      rw (p, g) (ap (λ (i : ℕ). over (at + i) z (over at x old)) (sym lx) ∙ over_over at x z old (omega arith))
-
-pub flag_le : {v : ℕ} (left : ℕ) → v ≡ cond (eqb left 1) 1 0 → v ≤ 1
-flag_le left e = rw e (told_le (eqb left 1))
+      let s : blocks - i ≡ suc k = omega arith in
+      let g : continuation_blocks (blocks - i) rest ≡ x ++ z =
+      rw s (rw (rest_first, rest_rest, ← last_is i blocks k (omega arith)) refl) in
+      let t : 192 + 272 * (i + 1) ≡ at + 272 = omega arith in
+      rw (t, p, g) (ap (λ (y : ℕ). over (at + y) z (over at x old)) (sym lx) ∙ over_over at x z old (omega arith))
 
 -- ---- SCH/H
 
@@ -149,13 +153,6 @@ pub fill_fits : (f count countdown fill : ℕ) (g : Fields) → fill ≤ 1 → A
 fill_fits f count countdown fill g h (reserved, (none, others)) = (reserved, (omega arith, others))
 
 module _ (f count countdown inside : ℕ) (g : Fields) (k : HeaderFits f count countdown g inside) where
-  -- no element is wider than one `put` takes
-  pub narrow_parts : AllNarrow (header_layout (shape_for f g))
-  narrow_parts =
-      let f = k.flag in
-      let w = k.narrow in
-      omega (arith, address_width_le g.destination.kind, address_width_le g.source.kind)
-
   pub header_put : (fill : ℕ) (m b : List Bool) → let first = sdu_at (shape_for f g) in
       let parts = header_parts fill f count countdown g in
       length m ≡ inside → fill ≡ cond (ltb inside (124 - first)) 1 0 → 192 ≤ length b

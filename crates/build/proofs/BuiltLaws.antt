@@ -80,7 +80,8 @@ module _ {y : Sync} {countdown : ℕ} {g : Fields} (m : List Bool) {bytes lent :
 
     pub sync_bits : bits_of (sch_s out) ≡ sync
     sync_bits =
-        bits_of_take 8 out ∙ ap (take 64) out_bits ∙ take_at sync (header ++ (blocks ++ bits_of rest)) 64 (length_sync y)
+        bits_of_take 8 out ∙ ap (take 64) out_bits
+        ∙ take_at sync (header ++ (blocks ++ bits_of rest)) 64 (length_sync y)
 
     pub header_bits_lem : bits_of (sch_h out) ≡ header
     header_bits_lem =

@@ -58,7 +58,8 @@ module _ (k : ℕ) (r more : List Bool) (bytes : List ℕ) (e : bits_of bytes �
 
   first_message : bits_of_message (block_message (bits_of (take 34 bytes))) ≡ take 264 r
   first_message =
-      rw (block_message_lem (last_when k) (take 264 r) (last_le k) (take_le 264 r) (take 34 bytes) first_length first_bits)
+      rw (block_message_lem (last_when k) (take 264 r) (last_le k) (take_le 264 r) (take 34 bytes) first_length
+      first_bits)
       refl
 
   first_reads : read_continuation (take 34 bytes)
@@ -183,10 +184,12 @@ module _ {y : Sync} {countdown : ℕ} {g : Fields} (m : List Bool) {bytes lent :
 
   -- the message bits of the header and of the blocks, joined in order, are the message
   pub built_joined : joined
-      (bits_of_message (message_of_header (body_of (bits_of (sch_h out))) (bits_of (sch_h out))) ∷ block_bits (sch_fs (blocks_for g n) out)) ≡ m
+      (bits_of_message (message_of_header (body_of (bits_of (sch_h out))) (bits_of (sch_h out)))
+      ∷ block_bits (sch_fs (blocks_for g n) out)) ≡ m
   built_joined =
       ap₂ (λ (x z : List Bool). x ++ z)
-      (header_message_lem well (sch_s out) (sch_h out) length_s length_h (sync_bits m k rest) (header_bits_lem m k rest))
+      (header_message_lem well (sch_s out) (sch_h out) length_s length_h (sync_bits m k rest)
+      (header_bits_lem m k rest))
       (blocks_joined (blocks_for g n) (drop i m) (bits_of rest) (drop 24 out) (blocks_bits m k rest)
       (rw (length-drop i m) (enough_when (fits_header (header_bits g) n) (header_bits g) n refl k.header.fits)))
       ∙ take-append-drop i m

@@ -139,7 +139,8 @@ module _ {y : Sync} {countdown : ℕ} {g : Fields} {n bytes lent : ℕ} (k : InR
   -- ---- the header, fragmented or not
 
   header_when : (t : Bool) → fits_header (header_bits g) n ≡ t → cond t true (leb (header_bits g) 120) ≡ true
-      → (sdu_at (shape_for (cond t 0 1) g) + cond t n (120 - header_bits g) ≤ 124) × (blocks_for g n < 2 ^ (4 * cond t 0 1))
+      → (sdu_at (shape_for (cond t 0 1) g) + cond t n (120 - header_bits g) ≤ 124)
+      × (blocks_for g n < 2 ^ (4 * cond t 0 1))
       × (cond t 0 1 ≤ 1) × (cond t n (120 - header_bits g) ≤ n)
   header_when true f e =
       let l = leb-true (n + header_bits g) 124 f in

@@ -19,7 +19,8 @@ use Rattle.blocks.specs.Sdu.{fill_told, bits_of_message}
 use Rattle.blocks.specs.Sync.{sync_layout, sync_parts, sync_of, sync_checks}
 use Rattle.blocks.specs.Header.{address_width, to_in, from_in, message_in, run_in, width_in, header_layout, sdu_at}
 use Rattle.blocks.specs.Header.{fragmented_in, tail_of}
-use Rattle.blocks.specs.Header.{shape_of, body_of, room_of, message_of_header, body_checks, header_fault, fields_of, header_of}
+use Rattle.blocks.specs.Header.{shape_of, body_of, room_of, message_of_header, body_checks, header_fault, fields_of}
+use Rattle.blocks.specs.Header.{header_of}
 use Rattle.blocks.specs.Header.{answered, read_header}
 use Rattle.build.specs.Build.{shape_for, header_parts, header_block, built_bits, built_bytes}
 use Rattle.blocks.specs.declared.header.Fields.{Fields}

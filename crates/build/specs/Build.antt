@@ -1,14 +1,17 @@
 -- Building a message: its blocks bit for bit (9.1.1, 9.2.2, 9.2.3, 8.5.4.1, 8.5.5.1), and what is refused.
-use Rattle.std.specs.Prelude.{Bool, false, List, [], ◌∷◌, ◌++◌, ℕ, zero, suc, ◌+◌, ◌-◌, ◌*◌, ◌≤◌, min, length, take, drop, replicate}
+use Rattle.std.specs.Prelude.{Bool, false, List, [], ◌∷◌, ◌++◌, ℕ, zero, suc, ◌+◌, ◌-◌, ◌*◌, ◌≤◌, min, length, take}
+use Rattle.std.specs.Prelude.{drop, replicate, Result, Ok, Err}
 use Rattle.bits.specs.Bits.{bits_of, bytes_n}
 use Rattle.bits.specs.Fill.{filled}
 use Rattle.bits.specs.Layout.{Part, parts_with, pack, AllFit}
+use Rattle.blocks.specs.Faults.{number_of}
 use Rattle.blocks.specs.Sdu.{fill_told, bits_of_message}
 use Rattle.blocks.specs.Sync.{sync_parts}
 use Rattle.blocks.specs.Header.{Shape, shape, header_layout, sdu_at}
 use Rattle.blocks.specs.Continuation.{continuation_parts, block_message, read_continuation}
 use Rattle.blocks.specs.Slots.{in_header}
 use Rattle.build.specs.Plan.{header_bits, fragmented_for, blocks_for, build_fault}
+use Rattle.blocks.specs.declared.fault.Fault.{Fault}
 use Rattle.blocks.specs.declared.sync.Sync.{Sync}
 use Rattle.blocks.specs.declared.header.Fields.{Fields}
 use Rattle.build.specs.declared.Built.{Built}
@@ -55,7 +58,8 @@ built_bits y countdown g m =
     let n = length m in
     let k = blocks_for g n in
     let i = in_header (header_bits g) n in
-    (pack (sync_parts y) ++ header_block (fragmented_for g n) k countdown g (take i m)) ++ continuation_blocks k (drop i m)
+    (pack (sync_parts y) ++ header_block (fragmented_for g n) k countdown g (take i m))
+    ++ continuation_blocks k (drop i m)
 
 abbrev pub built_bytes : Sync → ℕ → Fields → List Bool → List ℕ
 built_bytes y countdown g m = bytes_n (24 + 34 * blocks_for g (length m)) (built_bits y countdown g m)
@@ -72,6 +76,11 @@ pub record HeaderFits (f count countdown : ℕ) (g : Fields) (inside : ℕ) : Ty
 abbrev pub built_as : ℕ → ℕ → Built
 built_as zero k = record { fault = 0; blocks = k }
 built_as (suc f) k = record { fault = suc f; blocks = 0 }
+
+-- What an outcome says to C.
+abbrev pub answered : Result ℕ Fault → Built
+answered (Ok k) = record { fault = 0; blocks = k }
+answered (Err f) = record { fault = number_of f; blocks = 0 }
 
 unfoldable pub build_of : Sync → ℕ → Fields → ℕ → ℕ → ℕ → Built
 build_of y countdown g n bytes lent = built_as (build_fault y countdown g n bytes lent) (blocks_for g n)

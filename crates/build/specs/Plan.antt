@@ -1,6 +1,7 @@
 -- What a build is refused for (8, 9, 13, 14 in the document's words), and how its message is cut (8.5.4.1).
-use Rattle.std.specs.Prelude.{true, cond, List, [], ◌∷◌, ◌++◌, ℕ, zero, suc, ◌+◌, ◌*◌, ◌^◌, ltb, leb}
-use Rattle.blocks.specs.Faults.{unless, first_of}
+use Rattle.std.specs.Prelude.{true, cond, List, [], ◌∷◌, ◌++◌, ℕ, zero, suc, ◌+◌, ◌*◌, ◌^◌, ltb, leb, Result, Ok, Err}
+use Rattle.blocks.specs.Faults.{unless, first_of, number_of}
+use Rattle.blocks.specs.declared.fault.Fault.{Fault}
 use Rattle.blocks.specs.Widths.{entry_of, run_fits}
 use Rattle.blocks.specs.Header.{shape, address_width, sdu_at}
 use Rattle.blocks.specs.Slots.{fits_header, in_header, block_count}
@@ -73,18 +74,30 @@ build_checks y countdown g n bytes lent =
 unfoldable pub build_fault : Sync → ℕ → Fields → ℕ → ℕ → ℕ → ℕ
 build_fault y countdown g n bytes lent = first_of (build_checks y countdown g n bytes lent)
 
--- ---- What is planned: the fragmentation flag, the bits in the header, the number of continuation blocks.
+-- ---- What is planned: the fragmentation flag, the bits in the header, the number of continuation blocks; or the
+-- fault.
 
-abbrev pub no_plan : ℕ → Plan
+pub record Planned : Type 0 where
+  pub fault : ℕ
+  pub fragmented : ℕ
+  pub inside : ℕ
+  pub blocks : ℕ
+
+abbrev pub no_plan : ℕ → Planned
 no_plan fault = record { fault = fault; fragmented = 0; inside = 0; blocks = 0 }
 
-abbrev pub plan_as : ℕ → ℕ → ℕ → Plan
+-- What an answer of `planned` says: refused, all but the fault is 0.
+abbrev pub answered : Result Plan Fault → Planned
+answered (Ok p) = record { fault = 0; fragmented = cond p.fragmented 1 0; inside = p.inside; blocks = p.blocks }
+answered (Err f) = no_plan (number_of f)
+
+abbrev pub plan_as : ℕ → ℕ → ℕ → Planned
 plan_as zero h n =
     record { fault = 0; fragmented = cond (fits_header h n) 0 1; inside = in_header h n; blocks = block_count h n }
 plan_as (suc f) h n = no_plan (suc f)
 
-unfoldable pub plan_of : ℕ → ℕ → ℕ → ℕ → ℕ → ℕ → Plan
+unfoldable pub plan_of : ℕ → ℕ → ℕ → ℕ → ℕ → ℕ → Planned
 plan_of to from entry h n lent = plan_as (first_of (header_rules to from entry h n ++ length_rules h n lent)) h n
 
-unfoldable pub planned_of : Sync → ℕ → Fields → ℕ → ℕ → ℕ → Plan
+unfoldable pub planned_of : Sync → ℕ → Fields → ℕ → ℕ → ℕ → Planned
 planned_of y countdown g n bytes lent = plan_as (build_fault y countdown g n bytes lent) (header_bits g) n

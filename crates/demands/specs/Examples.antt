@@ -5,11 +5,10 @@ use Rattle.blocks.specs.Faults.{unless}
 use Rattle.blocks.specs.Sdu.{sdu_of, is_there, bits_of_message}
 use Rattle.blocks.specs.Header.{read_header}
 use Rattle.blocks.specs.Slots.{due_of}
-use Rattle.build.specs.Plan.{plan_of}
+use Rattle.build.specs.Plan.{Planned, plan_of}
 use Rattle.build.specs.Build.{continuation_block, built_bytes, build_of, sch_s, sch_h}
 use Rattle.blocks.specs.declared.sync.Sync.{Sync}
 use Rattle.blocks.specs.declared.header.Fields.{Fields}
-use Rattle.build.specs.declared.plan.Plan.{Plan}
 
 -- An example: what the definitions give, and what the document says.
 pub record Example : Type 0 where
@@ -26,7 +25,7 @@ abbrev last_bits : ℕ → ℕ → ℕ
 last_bits zero rest = 0
 last_bits (suc k) rest = rest - 264 * k
 
-abbrev laid_as : ℕ → ℕ → ℕ → Plan → List ℕ
+abbrev laid_as : ℕ → ℕ → ℕ → Planned → List ℕ
 laid_as zero h n p =
     0 ∷
     p.inside ∷

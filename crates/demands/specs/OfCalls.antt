@@ -10,6 +10,7 @@ use Rattle.receiver.specs.Reached.{Canonical}
 use Rattle.receiver.specs.declared.Receiver.{Receiver}
 use Rattle.receiver.specs.declared.Reply.{Reply}
 use Rattle.receiver.specs.declared.Fresh.{Fresh}
+use Rattle.demands.specs.declared.asked.Asked.{Asked}
 use Rattle.demands.specs.Calls.{Calls, HearCall, Made, refusal, heard_after}
 use Rattle.demands.specs.Demand1.{SettlesBuild, Begins, SettlesReport}
 use Rattle.demands.specs.Demand2.{Call, Builds}
@@ -19,6 +20,10 @@ use Rattle.demands.specs.Demand3.{Answers}
 abbrev pub call_of : Sync → ℕ → Fields → ℕ → List ℕ → List ℕ → Call
 call_of sync countdown fields n message out =
     record { sync = sync; countdown = countdown; fields = fields; n = n; message = message; out = out }
+
+-- The same, by what is asked for and the output.
+abbrev pub call_by : Asked → List ℕ → Call
+call_by a out = call_of a.sync a.countdown a.fields a.n a.message.now out
 
 -- Demands 1 and 2 of it.
 pub record BuildsAs (c : Call) (r : Built) (after : List ℕ) : Type 0 where

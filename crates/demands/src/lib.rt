@@ -3,23 +3,25 @@
 // here. No program calls these.
 #![tactic(auto)]
 
+mod asked;
+
 ghost use Rattle.std.specs.Prelude.{◌≡◌, ◌+◌, ◌*◌, ◌≤◌, ◌<◌, length};
 ghost use Rattle.blocks.specs.Continuation.{read_continuation};
 ghost use Rattle.blocks.specs.Header.{read_header, read_reported};
-ghost use Rattle.build.specs.Build.{sch_s, sch_h};
+ghost use Rattle.build.specs.Build.{sch_s, sch_h, build_of, out_of};
 ghost use Rattle.reports.specs.Lent.{lent};
 ghost use Rattle.receiver.specs.Reached.{Reached};
 ghost use Rattle.demands.specs.Demand1.{Reads, ReadsReported, ReadsBlock, LaysOut};
 ghost use Rattle.demands.specs.Demand2.{k, header_back, sch_f, block_back, Buildable, Rebuildable, Rebuilt};
-ghost use Rattle.demands.specs.OfCalls.{call_of, BuildsAs, BeginsAs, HearsAs};
+ghost use Rattle.demands.specs.OfCalls.{call_by, BuildsAs, BeginsAs, HearsAs};
 ghost use Rattle.demands.specs.Req06.{Plans};
 
+use crate::asked::Asked;
 use answering::{Calendar, Response, calendar_of};
 use blocks::continuation::{Continuation, read_continuation};
-use blocks::header::{Fields, Header, read_header, read_reported};
+use blocks::header::{Header, read_header, read_reported};
 use blocks::sizes::{SchF, SchH, SchS};
 use blocks::slots::{Due, due_frame};
-use blocks::sync::Sync;
 use build::{Built, build};
 use receiver::{Fresh, Receiver, Reply};
 
@@ -58,21 +60,6 @@ fn plans(r: Response) -> Calendar
     calendar_of(r)
 }
 
-// Demands 1 and 2 of `build`.
-fn builds(
-    sync: Sync,
-    countdown: u8,
-    fields: Fields,
-    n: usize,
-    message: &[u8],
-    out: &mut [u8],
-) -> Built
-    ensures { BuildsAs (call_of sync countdown fields n message.now out.old) result
-        out.new }
-{
-    build(sync, countdown, fields, n, message, out)
-}
-
 // The bytes of an output before its continuation blocks.
 const HEADER: usize = SchS::BYTES + SchH::BYTES;
 
@@ -101,56 +88,60 @@ fn block_of(out: &[u8], i: u8) -> Continuation
     read_continuation(&out[first..first + SchF::BYTES])
 }
 
-// Demand 2 of `build` and then `read_header`: the header that is built reads back.
-fn reads_back(
-    sync: Sync,
-    countdown: u8,
-    fields: Fields,
-    n: usize,
-    message: &[u8],
-    out: &mut [u8],
-) -> Header
-    requires { Buildable (call_of sync countdown fields n message.now out.old) }
-    ensures { result ≡ header_back (call_of sync countdown fields n message.now out.old) }
-{
-    build(sync, countdown, fields, n, message, out);
-    header_of(out)
-}
+impl<'a> Asked<'a> {
+    // The call of `build`.
+    fn built(self, out: &mut [u8]) -> Built
+        ensures answer { result
+            ≡ build_of self.entry.sync self.entry.countdown self.entry.fields self.entry.n (length self.entry.message.now) (length out.old) }
+        ensures output { out.new
+            ≡ out_of self.entry.sync self.entry.countdown self.entry.fields self.entry.n self.entry.message.now out.old }
+    {
+        build(
+            self.sync,
+            self.countdown,
+            self.fields,
+            self.n,
+            self.message,
+            out,
+        )
+    }
 
-// The same of `build` and then `read_reported`, with the header's own frame and slot.
-fn reads_reported_back(
-    frame: u8,
-    slot: u8,
-    sync: Sync,
-    countdown: u8,
-    fields: Fields,
-    n: usize,
-    message: &[u8],
-    out: &mut [u8],
-) -> Header
-    requires { Buildable (call_of sync countdown fields n message.now out.old) × (frame ≡ sync.frame)
-        × (slot ≡ sync.slot + 1) }
-    ensures { result ≡ header_back (call_of sync countdown fields n message.now out.old) }
-{
-    build(sync, countdown, fields, n, message, out);
-    reported_of(frame, slot, out)
-}
+    // Demands 1 and 2 of it.
+    fn builds(self, out: &mut [u8]) -> Built
+        ensures { BuildsAs (call_by self.entry out.old) result out.new }
+    {
+        self.built(out)
+    }
 
-// The same of `build` and then `read_continuation`: each block that is built reads back.
-fn reads_block_back(
-    i: u8,
-    sync: Sync,
-    countdown: u8,
-    fields: Fields,
-    n: usize,
-    message: &[u8],
-    out: &mut [u8],
-) -> Continuation
-    requires { let c = call_of sync countdown fields n message.now out.old in Buildable c × (i < k c) }
-    ensures { result ≡ block_back (call_of sync countdown fields n message.now out.old) i }
-{
-    build(sync, countdown, fields, n, message, out);
-    block_of(out, i)
+    // Demand 2 of `build` and then `read_header`: the header that is built reads back.
+    fn reads_back(self, out: &mut [u8]) -> Header
+        requires { Buildable (call_by self out.old) }
+        ensures { result ≡ header_back (call_by self.entry out.old) }
+    {
+        self.built(out);
+        header_of(out)
+    }
+
+    // The same of `build` and then `read_reported`, with the header's own frame and slot.
+    fn reads_reported_back(self, frame: u8, slot: u8, out: &mut [u8]) -> Header
+        requires buildable { Buildable (call_by self out.old) }
+        requires own_frame { frame ≡ self.sync.frame }
+        requires own_slot { slot ≡ self.sync.slot + 1 }
+        ensures { result ≡ header_back (call_by self.entry out.old) }
+    {
+        self.built(out);
+        reported_of(frame, slot, out)
+    }
+
+    // The same of `build` and then `read_continuation`: each block that is built reads back.
+    fn reads_block_back(self, i: u8, out: &mut [u8]) -> Continuation
+        requires buildable { Buildable (call_by self out.old) }
+        requires of_the_message { i < k (call_by self out.old) }
+        ensures { result ≡ block_back (call_by self.entry out.old) i }
+    {
+        self.built(out);
+        block_of(out, i)
+    }
 }
 
 // Demand 2 of `read_header` and then `build`: an unfragmented header that reads well builds again to the same bytes.

@@ -43,7 +43,8 @@ turns_code k v small h =
     (sym (num_kept c k 32 e h) ∙ ap (λ (x : ℕ). x * 2 ^ k % 2 ^ 32) n)
 
 -- the table serves for fewer than four bits too
-few_rule : (table : List ℕ) (k i : ℕ) → Fours table → k ≤ 4 → i < 2 ^ k → get_or table i 0 ≡ num (remainder_of (bits_n k i))
+few_rule : (table : List ℕ) (k i : ℕ) → Fours table → k ≤ 4 → i < 2 ^ k
+    → get_or table i 0 ≡ num (remainder_of (bits_n k i))
 few_rule table k i f h small =
     let j = 4 - k in
     let e : 4 ≡ j + k = omega arith in

@@ -7,14 +7,6 @@ ghost use Rattle.bits.specs.Bits.{num, bits_n, bits_of, Inside};
 ghost use Rattle.fcs.specs.Annex.{fcs_of};
 ghost use Rattle.fcs.specs.Register.{ones, fed, turns, Fours};
 
-use bits::least;
-
-fn wide(x: u8) -> u32
-    ensures { result ≡ x }
-{
-    x as u32
-}
-
 // What a frame of `n` bits begins with.
 fn start(n: usize) -> u32
     ensures { result ≡ num (ones 32 n) }
@@ -44,8 +36,8 @@ fn after(table: &[u32; 16], c: u32, x: u8, k: usize) -> u32
     requires { Fours table.now × (1 ≤ k) × (k ≤ 8) }
     ensures { result ≡ num (fed (bits_n 32 c) (take k (bits_n 8 x))) }
 {
-    let first = least(k, 4);
-    let full = c ^ ((wide(x) >> (8 - k)) << (32 - k));
+    let first = k.min(4);
+    let full = c ^ ((u32::from(x) >> (8 - k)) << (32 - k));
     turned(table, turned(table, full, first), k - first)
 }
 
@@ -55,15 +47,14 @@ pub fn fcs_of(s: &[u8], n: usize) -> u32
     ensures { result ≡ num (fcs_of (take n (bits_of s.now))) }
 {
     let table = FOUR;
+    let whole = n / 8;
     let mut c = start(n);
-    let mut i = 0;
-    while i < n / 8 {
-        c = after(&table, c, s[i], 8);
-        i += 1;
+    for &x in &s[..whole] {
+        c = after(&table, c, x, 8);
     }
     let k = n % 8;
     if k == 0 {
         return !c;
     }
-    !after(&table, c, s[i], k)
+    !after(&table, c, s[whole], k)
 }

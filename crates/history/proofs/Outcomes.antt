@@ -13,6 +13,8 @@ use Rattle.blocks.specs.declared.header.Fields.{Fields}
 use Rattle.history.specs.declared.Place.{Place}
 use Rattle.history.specs.declared.Near.{Near}
 use Rattle.history.specs.declared.Verdict.{Verdict}
+use Rattle.history.specs.declared.Outcome as code
+use Rattle.history.specs.declared.Outcome.TheVariants.{Single, Copied}
 use Rattle.history.specs.Step.{Assembly, State, Outcome, Answer, quiet, single, joined, opened, kept, copy}
 use Rattle.history.specs.Step.{no_run, in_turn, is_held, is_due, is_last, repeats, renews, older_run, broken_off}
 use Rattle.history.specs.Step.{on_frag, on_end, on_fragmented, on_unfragmented, outcome_of, judged, answered}
@@ -38,7 +40,8 @@ Says hs r kept = Keeps hs r
 Says hs r copy = Copies hs r
 
 module _ (hs : History) (q : Place) where
-  says_hands : (g : Fields) (m : List Bool) {x : Heard} {o : ℕ} {near : Bool} → Hands (rest_at hs q).near x o near
+  says_hands : (g : Fields) (m : List Bool) {x : Heard} {o : code.Outcome} {near : Bool}
+      → Hands (rest_at hs q).near x o near
       → Says hs (report q x) (outcome_of o (header_in x).fields (bits_in x) g m)
   says_hands g m (no_hand w) = tt
   says_hands g m (hand {h} {f} true w e) =
@@ -143,7 +146,7 @@ module _ (hs : History) (r : Report) where
   -- The answer to an unfragmented header for this unit turns on the test for a copy.
   pub hands_at : (h : Header) (f : ℕ) (b : Bool) → r.heard ≡ unfragmented h f → h.for_us ≡ true
       → copied (rest_at hs r.place).near h.raw f ≡ b → let a = (rest_at hs r.place).assembly in
-      outcome_at hs r ≡ outcome_of (cond b 5 1) h.fields h.bits a.run.fields (a.joined ++ h.bits)
+      outcome_at hs r ≡ outcome_of (cond b Copied Single) h.fields h.bits a.run.fields (a.joined ++ h.bits)
   hands_at h f b e w c =
       let s = rest_at hs r.place in
       let d = is_due s.assembly.run r.place in
@@ -180,7 +183,7 @@ module _ (hs : History) (r : Report) where
   quiet_at e k =
       let a = (rest_at hs r.place).assembly in
       let x = r.heard in
-      ap (λ (n : ℕ). outcome_of n (header_in x).fields (bits_in x) a.run.fields (a.joined ++ bits_in x))
+      ap (λ (n : code.Outcome). outcome_of n (header_in x).fields (bits_in x) a.run.fields (a.joined ++ bits_in x))
       (quiet_is (comes_at hs r) e k)
 
 -- The dropped mark. A run's own header again, by its test; and not the block that is due.

@@ -13,6 +13,8 @@ use Rattle.history.specs.declared.Near.{Near}
 use Rattle.history.specs.declared.Open.{Open}
 use Rattle.history.specs.declared.Verdict.{Verdict}
 use Rattle.history.specs.declared.Act.TheVariants.{Stays, Ends, Takes}
+use Rattle.history.specs.declared.Outcome as code
+use Rattle.history.specs.declared.Outcome.TheVariants.{Quiet, Single, Joined, Kept, Copied}
 use Rattle.history.specs.Step.{Assembly, State, no_run, no_assembly, older, is_held, is_due, copied}
 use Rattle.history.specs.Step.{is_last, renews, verdict, on_nothing, on_unfragmented, on_frag, on_end}
 use Rattle.history.specs.Step.{on_fragmented, judge, changed, in_turn, broken_off, aged, verdict_at, after}
@@ -39,21 +41,22 @@ unfit last (frag b) = last
 unfit last (end b) = not last
 
 -- What is answered to an unfragmented header, and whether it is one more that copies can come of.
-pub data Hands (ns : List Near) : Heard → ℕ → Bool → Type 0 where
-  no_hand : {x : Heard} → NotForUs x → Hands ns x 0 false
+pub data Hands (ns : List Near) : Heard → code.Outcome → Bool → Type 0 where
+  no_hand : {x : Heard} → NotForUs x → Hands ns x Quiet false
   hand : {h : Header} {f : ℕ} (c : Bool) → h.for_us ≡ true → copied ns h.raw f ≡ c
-      → Hands ns (unfragmented h f) (cond c 5 1) (not c)
+      → Hands ns (unfragmented h f) (cond c Copied Single) (not c)
 
 -- What a report in slot q comes to.
 pub data Comes (a : Open) (n : List Near) (q : Place) (lost : Bool) : Heard → Verdict → Type 0 where
-  passing : {x : Heard} {o : ℕ} {near : Bool} → NotFragmented x → is_due a q ≡ false → Hands n x o near
+  passing : {x : Heard} {o : code.Outcome} {near : Bool} → NotFragmented x → is_due a q ≡ false → Hands n x o near
       → Comes a n q lost x (verdict o lost Stays near)
-  missing : {x : Heard} {o : ℕ} {near : Bool} → NotFragmented x → is_due a q ≡ true → unfit (is_last a) x ≡ true
+  missing : {x : Heard} {o : code.Outcome} {near : Bool} → NotFragmented x → is_due a q ≡ true
+      → unfit (is_last a) x ≡ true
       → Hands n x o near → Comes a n q lost x (verdict o true Ends near)
   keeping : (b : List Bool) → is_due a q ≡ true → is_last a ≡ false
-      → Comes a n q lost (frag b) (verdict 4 lost Takes false)
+      → Comes a n q lost (frag b) (verdict Kept lost Takes false)
   closing : (b : List Bool) → is_due a q ≡ true → is_last a ≡ true
-      → Comes a n q lost (end b) (verdict 2 lost Ends false)
+      → Comes a n q lost (end b) (verdict Joined lost Ends false)
   heading : {h : Header} {more f : ℕ} (w : Bool) → h.for_us ≡ w
       → Comes a n q lost (fragmented h more f) (on_fragmented w (is_held a) (renews a w h.raw f) lost)
 
@@ -102,7 +105,7 @@ not_kept n (unfragmented h f) w = ap (λ (m : Bool). m && not (copied n h.raw f)
 not_kept n (frag b) w = refl
 not_kept n (end b) w = refl
 
-hands_near : {n : List Near} {x : Heard} {o : ℕ} {near : Bool} → Hands n x o near → near ≡ kept_in n x
+hands_near : {n : List Near} {x : Heard} {o : code.Outcome} {near : Bool} → Hands n x o near → near ≡ kept_in n x
 hands_near {n} {x} (no_hand w) = not_kept n x w
 hands_near (hand c w e) = ap₂ (λ (m c : Bool). m && not c) (sym w) (sym e)
 
@@ -141,7 +144,7 @@ module _ {a : Open} {n : List Near} {q : Place} {lost : Bool} where
 
   -- Nothing is told of what is not for this unit, and is not the block that is due.
   pub quiet_is : {x : Heard} {v : Verdict} → Comes a n q lost x v → NotForUs x
-      → (is_due a q ≡ true → unfit (is_last a) x ≡ true) → v.outcome ≡ 0
+      → (is_due a q ≡ true → unfit (is_last a) x ≡ true) → v.outcome ≡ Quiet
   quiet_is (passing f d (no_hand w)) e k = refl
   quiet_is (passing f d (hand c w i)) e k = absurd_bool (sym e ∙ w)
   quiet_is (missing f d u (no_hand w)) e k = refl

@@ -15,6 +15,8 @@ use Rattle.history.specs.declared.Lost.{Lost}
 use Rattle.history.specs.declared.Verdict.{Verdict}
 use Rattle.history.specs.declared.Act.{Act}
 use Rattle.history.specs.declared.Act.TheVariants.{Stays, Ends, Opens, Takes}
+use Rattle.history.specs.declared.Outcome as code
+use Rattle.history.specs.declared.Outcome.TheVariants.{Quiet, Single, Joined, Opened, Kept, Copied}
 use Rattle.history.specs.declared.What.{What}
 use Rattle.history.specs.declared.What.TheVariants.{Nothing, Fragmented, Unfragmented, Frag, End}
 
@@ -60,6 +62,15 @@ number (joined f m) = 2
 number opened = 3
 number kept = 4
 number copy = 5
+
+-- And by the code's own outcomes, which have no message with them.
+abbrev pub outcome_number : code.Outcome → ℕ
+outcome_number Quiet = 0
+outcome_number Single = 1
+outcome_number Joined = 2
+outcome_number Opened = 3
+outcome_number Kept = 4
+outcome_number Copied = 5
 
 -- The message handed over, and its header fields: none, and 0, where nothing is handed over. The answer's bits are the
 -- message's length.
@@ -152,37 +163,39 @@ broken_off false a = is_held a
 
 -- ---- The rules: what a report comes to. `lost` where an open assembly was broken off.
 
-abbrev pub verdict : ℕ → Bool → Act → Bool → Verdict
+abbrev pub verdict : code.Outcome → Bool → Act → Bool → Verdict
 verdict outcome dropped act near = record { outcome = outcome; dropped = dropped; act = act; near = near }
 
 -- The due block was not heard: the assembly ends, and the mark tells of it. A block that is not due changes nothing.
 abbrev pub missed : Verdict
-missed = verdict 0 true Ends false
+missed = verdict Quiet true Ends false
 
 abbrev pub passed : Bool → Verdict
-passed lost = verdict 0 lost Stays false
+passed lost = verdict Quiet lost Stays false
 
 abbrev pub on_nothing : Bool → Bool → Verdict
 on_nothing due lost = cond due missed (passed lost)
 
 -- A DMAC-FRAG is kept where it is due and not the last one to come; a DMAC-END hands over where it is due and is.
 abbrev pub on_frag : Bool → Bool → Bool → Verdict
-on_frag due last lost = cond due (cond last missed (verdict 4 lost Takes false)) (passed lost)
+on_frag due last lost = cond due (cond last missed (verdict Kept lost Takes false)) (passed lost)
 
 abbrev pub on_end : Bool → Bool → Bool → Verdict
-on_end due last lost = cond due (cond last (verdict 2 lost Ends false) missed) (passed lost)
+on_end due last lost = cond due (cond last (verdict Joined lost Ends false) missed) (passed lost)
 
 -- A fragmented header opens an assembly where it is for this unit, and ends an open one in any case; the mark tells of
 -- it, but where the header is the open run's own.
 abbrev pub on_fragmented : Bool → Bool → Bool → Bool → Verdict
 on_fragmented meant held renewed lost =
-    let mark = cond held (not renewed) lost in cond meant (verdict 3 mark Opens false) (verdict 0 mark Ends false)
+    let mark = cond held (not renewed) lost in
+    cond meant (verdict Opened mark Opens false) (verdict Quiet mark Ends false)
 
 -- To an open assembly an unfragmented header is as if nothing was heard. One that is a copy fits whatever the earlier
 -- one fits, which is there already.
 abbrev pub on_unfragmented : Bool → Bool → Bool → Bool → Verdict
 on_unfragmented due meant copied lost =
-    let p = on_nothing due lost in cond meant (verdict (cond copied 5 1) p.dropped p.act (not copied)) p
+    let p = on_nothing due lost in
+    cond meant (verdict (cond copied Copied Single) p.dropped p.act (not copied)) p
 
 -- By what the report brings, over what is left of the open run and of the earlier headers: the slot, whether the header
 -- is for this unit, its SCH/H but for the countdown, its countdown.
@@ -252,11 +265,14 @@ joined_after Ends b j = []
 joined_after Opens b j = b
 joined_after Takes b j = j ++ b
 
--- By the outcome's number: the header's message, the joined one, or none.
-abbrev pub outcome_of : ℕ → Fields → List Bool → Fields → List Bool → Outcome
-outcome_of n g b fields message =
-    cond (eqb n 1) (single g b)
-    (cond (eqb n 2) (joined fields message) (cond (eqb n 3) opened (cond (eqb n 4) kept (cond (eqb n 5) copy quiet))))
+-- By the verdict's outcome: the header's message, the joined one, or none.
+abbrev pub outcome_of : code.Outcome → Fields → List Bool → Fields → List Bool → Outcome
+outcome_of Quiet g b fields message = quiet
+outcome_of Single g b fields message = single g b
+outcome_of Joined g b fields message = joined fields message
+outcome_of Opened g b fields message = opened
+outcome_of Kept g b fields message = kept
+outcome_of Copied g b fields message = copy
 
 -- ---- The step.
 

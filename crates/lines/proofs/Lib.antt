@@ -1,3 +1,4 @@
 -- The laws of lines.
 pub mod Printing
 pub mod Outputs
+pub mod Builds

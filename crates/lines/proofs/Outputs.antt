@@ -1,12 +1,15 @@
 -- The laws of what is shown of a lent output. Assumes nothing.
 use mathlib.Core.Path.{◌≡◌, refl}
+use mathlib.Core.Bool.{Bool, true, false, cond}
 use mathlib.Core.List.{List, [], ◌∷◌}
 use Prim.Native.Nat.{ℕ, zero, suc, ◌+◌, ◌≤◌, ◌<◌}
-use native.Mathlib.Numerals.{add-one}
 use native.Mathlib.Omega.{arith}
-use lib.ListN.{length, take, drop, get_or, set, replicate, drop_of_length-le}
-use lib.Seq.{drop-cons}
+use lib.ListN.{length, take, drop, get_or, set, replicate}
+use lib.Dec.{eqb}
 use borrow.Author.Tests.{ne_eqb}
+use mir.Val.{bool_byte}
+use Rattle.std.specs.Bool.{MatchBool}
+use Rattle.std.specs.List.{AllWithin, HoldsAt}
 use Rattle.text.specs.Text.{Wrote, spaced, hex_of}
 use Rattle.text.proofs.Writing.{wrote_none, wrote_more, wrote_both}
 use Rattle.lines.specs.Lines.{hex_text, rest_of, shown_of}
@@ -26,18 +29,27 @@ wrote_dash old at (x ∷ xs) e h = absurd (omega arith)
 
 -- ---- REST
 
-module _ (s : List ℕ) (i : ℕ) where
-  pub rest_none : length s ≤ i → 1 ≡ rest_of (drop i s)
-  unfolding rest_of
-  rest_none h = rw (drop_of_length-le s {i = i} h) refl
+either_zero : (b : Bool) → cond {A = ℕ} b 0 0 ≡ 0
+either_zero true = refl
+either_zero false = refl
 
-  pub rest_same : i < length s → get_or s i 0 ≡ 90 → rest_of (drop (i + 1) s) ≡ rest_of (drop i s)
-  unfolding rest_of
-  rest_same h e = rw (add-one i, drop-cons s i 0 h, e) refl
+rest_all : (s : List ℕ) → ((k : ℕ) → k < length s → get_or s k 0 ≡ 90) → 1 ≡ rest_of s
+unfolding rest_of
+rest_all [] h = refl
+rest_all (x ∷ xs) h = rw (h 0 (omega arith)) (rest_all xs (λ k l. h (suc k) (omega arith)))
 
-  pub rest_other : i < length s → (get_or s i 0 ≡ 90 → ⊥) → 0 ≡ rest_of (drop i s)
-  unfolding rest_of
-  rest_other h n = rw (drop-cons s i 0 h, ne_eqb (get_or s i 0) 90 n) refl
+rest_other : (s : List ℕ) (k : ℕ) → k < length s → (get_or s k 0 ≡ 90 → ⊥) → 0 ≡ rest_of s
+unfolding rest_of
+rest_other [] k h n = absurd (omega arith)
+rest_other (x ∷ xs) zero h n = rw (ne_eqb x 90 n) refl
+rest_other (x ∷ xs) (suc k) h n = rw (← rest_other xs k (omega arith) n, either_zero (eqb x 90)) refl
+
+-- as it was found by going over the bytes
+pub rest_found : (s : List ℕ) (r : Bool)
+    → MatchBool r (AllWithin (λ x. x ≡ 90) s 0 (length s)) ((k : ℕ) × (k < length s) × HoldsAt (λ x. x ≡ 90 → ⊥) s k)
+    → bool_byte r ≡ rest_of s
+rest_found s true h = rest_all s (λ k l. h k 0 (omega arith) l)
+rest_found s false h = rest_other s h.0 h.1 (h.2 0)
 
 -- ---- both
 

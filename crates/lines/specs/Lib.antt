@@ -1,3 +1,4 @@
 -- The definitions that the contracts of `lines` cite.
 pub mod Lines
 pub mod Input
+pub mod Built

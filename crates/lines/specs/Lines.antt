@@ -4,8 +4,8 @@ use Rattle.std.proofs.Math.Option.{Option, none, some}
 use Rattle.text.specs.Text.{Wrote, spaced, hex_of}
 use Rattle.lines.specs.declared.input.Taken.{Taken}
 use Rattle.lines.specs.declared.input.Taken.TheVariants.{Record, Cut, End}
-use Rattle.lines.specs.declared.line.Line.{Line}
-use Rattle.lines.specs.declared.line.Line.TheVariants.{Bytes, Short}
+use Rattle.std.specs.declared.option.Option as answer
+use Rattle.std.specs.declared.option.Option.TheVariants.{Some, None}
 
 -- The first n bytes of a run are within it.
 abbrev pub IsPrefixLen : ℕ → List ℕ → Type 0
@@ -76,8 +76,8 @@ pub record Stands (old line new : List ℕ) (n : ℕ) : Type 0 where
   pub wrote : Wrote old 0 line new n
   pub fits : n ≤ length new
 
-abbrev pub Says : List ℕ → Option (List ℕ) → List ℕ → Line → Type 0
-Says old (some line) new (Bytes n) = Stands old line new n
-Says old none new Short = new ≡ old
-Says old (some line) new Short = ⊥
-Says old none new (Bytes n) = ⊥
+abbrev pub Says : List ℕ → Option (List ℕ) → List ℕ → answer.Option ℕ → Type 0
+Says old (some line) new (Some n) = Stands old line new n
+Says old none new None = new ≡ old
+Says old (some line) new None = ⊥
+Says old none new (Some n) = ⊥

@@ -8,6 +8,7 @@ use records::two_at;
 use std::io::Read;
 
 // What was read: a record's kind and the length of its body, which stands at the buffer's start.
+// Kept: an enum of its own, since there are three cases; `Result<Option<..>, ..>` would say `Cut` by an error's name.
 #[derive(Clone, Copy)]
 pub enum Taken {
     Record(u16, usize),
@@ -21,6 +22,7 @@ pub fn read_full<R: Read>(input: &mut R, run: &mut [u8]) -> usize
     ensures in_bounds { IsPrefixLen result run.new }
     ensures bytes { Consumes (R.remaining input.old) (R.remaining input.new) (take result run.new) }
 {
+    // Kept: no index is counted here; a read says how many bytes to go on by, and std's `read_exact` does not.
     let mut done = 0;
     while done < run.len() {
         match input.read(&mut run[done..]) {
@@ -57,7 +59,7 @@ pub fn take<R: Read>(input: &mut R, body: &mut [u8]) -> Taken
     if got < 4 {
         return Taken::Cut;
     }
-    let length = two_at(body, 0) as usize;
+    let length = usize::from(two_at(body, 0));
     let kind = two_at(body, 2);
     if length < 2 {
         return Taken::Cut;

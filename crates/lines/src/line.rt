@@ -1,17 +1,21 @@
 // Lines, put together in a buffer.
-ghost use Rattle.std.specs.Prelude.{◌≡◌, true, false, [], ◌∷◌, ◌++◌, ◌+◌, ◌*◌, ◌≤◌, ◌<◌, length, take, drop};
+ghost use Rattle.std.specs.Prelude.{◌≡◌, true, false, [], ◌∷◌, ◌++◌, ◌+◌, ◌*◌, ◌≤◌, ◌<◌, length, drop};
 ghost use Rattle.std.specs.Io.KnownBytes.{Appends};
 ghost use Rattle.text.specs.Text.{Wrote, decimal_of, hex_of};
-ghost use Rattle.lines.specs.Lines.{Stands, Says, start_of, line_of, start_with, line_with, line_then};
+ghost use Rattle.std.specs.Prelude.{IsSomeAnd, replicate};
+ghost use Rattle.std.proofs.Math.Option.{none};
+ghost use Rattle.records.specs.Numbers.{two_at};
+ghost use Rattle.lines.specs.Built.{Callable, Lent};
+ghost use Rattle.lines.specs.Lines.{Stands, Says, start_of, line_of, line_with, line_then};
 ghost use Rattle.lines.specs.Lines.{hex_text, rest_of, shown_of, unknown_line};
 
 use std::io::Write;
 
-// How many bytes of a buffer are a line; or there is none, since the record is too short for its kind.
+// What is kept after a record, and how many bytes of a buffer are its line; none where it is too short for its kind.
 #[derive(Clone, Copy)]
-pub enum Line {
-    Bytes(usize),
-    Short,
+pub struct Told<S> {
+    pub state: S,
+    pub line: Option<usize>,
 }
 
 // What every lent output is filled with before its call.
@@ -50,18 +54,11 @@ fn hex(out: &mut [u8], at: usize, s: &[u8]) -> usize
     text::hex(out, at, s)
 }
 
-// 1 if the bytes of a lent output from place `from` on are all as before the call, else 0.
-fn rest(s: &[u8], from: usize) -> u64
-    ensures { result ≡ rest_of (drop from s.now) }
+// 1 if these bytes of a lent output are all as before the call, else 0.
+fn rest(s: &[u8]) -> u64
+    ensures { result ≡ rest_of s.now }
 {
-    let mut i = from;
-    while i < s.len() {
-        if s[i] != BEFORE {
-            return 0;
-        }
-        i += 1;
-    }
-    1
+    u64::from(s.iter().all(|b| *b == BEFORE))
 }
 
 // The first `n` bytes of a lent output, and what is said of the rest, a space before each.
@@ -72,30 +69,18 @@ fn shown(out: &mut [u8], at: usize, s: &[u8], n: usize) -> usize
 {
     out[at] = b' ';
     let end = hex(out, at + 1, &s[..n]);
-    let ns = [rest(s, n)];
+    let ns = [rest(&s[n..])];
     text::numbers(out, end, &ns)
 }
 
-// A word, numbers, and the first `n` bytes of a lent output with what is said of the rest.
-fn start_with(out: &mut [u8], word: &[u8], ns: &[u64], s: &[u8], n: usize) -> usize
-    requires { (n ≤ length s.now) × (length word.now + 21 * length ns.now + 2 * n + 23 ≤ length out.old) }
-    ensures { Wrote out.old 0 (start_with word.now ns.now n s.now)
-        out.new result
-        × (result ≤ length word.now + 21 * length ns.now + 2 * n + 23) }
-{
-    let at = start(out, word, ns);
-    shown(out, at, s, n)
-}
-
-// The same, and a line end.
+// A word, numbers, the first `n` bytes of a lent output with what is said of the rest, and a line end.
+// Kept: `s` and `n` side by side, here and below, since the bytes of `s` after the first `n` are told of too.
 pub fn line_with(out: &mut [u8], word: &[u8], ns: &[u64], s: &[u8], n: usize) -> usize
     requires { (n ≤ length s.now) × (length word.now + 21 * length ns.now + 2 * n + 23 < length out.old) }
     ensures { Stands out.old (line_with word.now ns.now n s.now)
         out.new result }
 {
-    let end = start_with(out, word, ns, s, n);
-    out[end] = b'\n';
-    end + 1
+    line_then(out, word, ns, s, n, &[])
 }
 
 // The same, and more numbers before the line end.
@@ -105,8 +90,9 @@ pub fn line_then(out: &mut [u8], word: &[u8], ns: &[u64], s: &[u8], n: usize, mo
     ensures { Stands out.old
         (line_then word.now ns.now n s.now more.now) out.new result }
 {
-    let at = start_with(out, word, ns, s, n);
-    let end = text::numbers(out, at, more);
+    let at = start(out, word, ns);
+    let after = shown(out, at, s, n);
+    let end = text::numbers(out, after, more);
     out[end] = b'\n';
     end + 1
 }
@@ -132,25 +118,53 @@ pub fn bytes(out: &mut [u8], s: &[u8]) -> usize
 }
 
 // The line of a kind that there is not.
-pub fn unknown(out: &mut [u8]) -> Line
+pub fn unknown(out: &mut [u8]) -> Option<usize>
     requires { 512 ≤ length out.old }
     ensures { Says out.old unknown_line out.new result }
 {
-    Line::Bytes(text::copy(out, 0, b"kind\n"))
+    Some(text::copy(out, 0, b"kind\n"))
 }
 
-// Writes the first `n` bytes of a buffer to `to`, as to standard output; false where it takes no more.
-pub fn say<W: Write>(to: &mut W, line: &[u8], n: usize) -> bool
-    requires { n ≤ length line.now }
-    ensures { result ≡ true → Appends (W.contents to.old) (W.contents to.new) (take n line.now) }
+// The most bytes that a call is lent for its output.
+const LENT: usize = 1024;
+
+// The line of a build: `built` puts it together from the body, and is lent an output that is as long as the body says at
+// place 33, each byte as before a call. Above 1,024 bytes it is of a kind that there is not.
+pub fn line_of_build<F: FnOnce(&[u8], &mut [u8], &mut [u8]) -> usize>(
+    body: &[u8],
+    line: &mut [u8],
+    built: F,
+) -> Option<usize>
+    requires room { 4096 ≤ length line.old }
+    requires callable { Callable F.FnOnce built }
+    ensures short { length body.now < 35 → Says line.old none line.new result }
+    ensures unknown { 35 ≤ length body.now → 1024 < two_at body.now 33 → Says line.old unknown_line line.new result }
+    ensures built { 35 ≤ length body.now → two_at body.now 33 ≤ 1024
+        → IsSomeAnd result (λ n. Lent F.FnOnce built body.now (replicate (two_at body.now 33) 90) line.old n line.new) }
 {
-    to.write_all(&line[0..n]).is_ok()
+    if body.len() < 35 {
+        return None;
+    }
+    let lent = usize::from(records::two_at(body, 33));
+    if LENT < lent {
+        return unknown(line);
+    }
+    let mut out = [BEFORE; LENT];
+    Some(built(body, &mut out[..lent], line))
+}
+
+// Writes a line to `to`, as to standard output; false where it takes no more.
+// Kept: a `bool`, since no program tells why a write failed: each stops as at its input's end, with status 0.
+pub fn say<W: Write>(to: &mut W, line: &[u8]) -> bool
+    ensures { result ≡ true → Appends (W.contents to.old) (W.contents to.new) line.now }
+{
+    to.write_all(line).is_ok()
 }
 
 // Says that a record is cut off. Nothing is read after it: false.
 pub fn cut<W: Write>(to: &mut W) -> bool
     ensures { result ≡ false }
 {
-    say(to, b"cut\n", 4);
+    say(to, b"cut\n");
     false
 }

@@ -6,22 +6,21 @@
 // written in parts.
 #![tactic(auto)]
 
-ghost use Rattle.std.specs.Prelude.{◌≡◌, ◌≤◌, length, take};
+ghost use Rattle.std.specs.Prelude.{◌≡◌, ◌≤◌, length, take, IfSome};
 ghost use Rattle.receiver.specs.Reached.{Reached};
 
 use lines::input::read_full;
 use lines::line;
 use receiver::Receiver;
 use slotlog::log::{Begun, FIRST};
-use slotlog::run::Run;
+use slotlog::run::{Run, State};
 use std::io::{Read, Write};
 
-// The receiver, how many bytes at the start of the log's room are still to be read, and whether it goes on.
+// The receiver, and how many bytes at the start of the log's room are still to be read.
 #[derive(Clone, Copy)]
 struct Printer {
     receiver: Receiver,
     have: usize,
-    going: bool,
 }
 
 // Room for more of the log than its longest record, 65,537 bytes.
@@ -35,56 +34,50 @@ fn log_room() -> [u8; 131072]
 // is room for where the log ends.
 fn more<R: Read>(input: &mut R, log: &mut [u8], have: usize) -> usize
     requires { have ≤ length log.old }
-    ensures { (have ≤ result) × (result ≤ length log.new)
-        × (take have log.new ≡ take have log.old) }
+    ensures more { have ≤ result }
+    ensures inside { result ≤ length log.new }
+    ensures kept { take have log.new ≡ take have log.old }
 {
     have + read_full(input, &mut log[have..])
 }
 
-// Whether it goes on, after lines that were written or not, a run that ended in this state, and with so much of
-// the log left; where the log has ended with bytes left over, `cut` is printed.
-fn goes_on<W: Write>(to: &mut W, wrote: bool, state: u8, ended: bool, left: usize) -> bool {
-    if !wrote {
-        return false;
-    }
-    if state == Run::CUT {
-        return false;
-    }
-    if state == Run::WANTS {
-        if ended {
-            if 0 < left {
-                line::cut(to);
-            }
-            return false;
-        }
-    }
-    true
-}
-
 impl Printer {
-    // Reads more of the log, and prints what can be read of it.
-    fn turn<R: Read, W: Write>(self, input: &mut R, to: &mut W, log: &mut [u8]) -> Printer
-        requires { Reached self.receiver × (self.have ≤ length log.old) }
-        ensures { Reached result.receiver × (result.have ≤ length log.new) }
+    // Reads more of the log, and prints what can be read of it; none where nothing is to be printed after that. Where
+    // the log has ended with bytes left over, `cut` is printed.
+    fn turn<R: Read, W: Write>(self, input: &mut R, to: &mut W, log: &mut [u8]) -> Option<Printer>
+        requires reached { Reached self.receiver }
+        requires inside { self.have ≤ length log.old }
+        ensures reached { IfSome result (λ x. Reached x.receiver) }
+        ensures inside { IfSome result (λ x. x.have ≤ length log.new) }
     {
         let all = more(input, log, self.have);
         let ended = all < log.len();
         let mut out = [0u8; 65536];
         let r = Run::part(self.receiver, log, all, &mut out);
-        let written = r.written;
         let left = all - r.read;
-        let wrote = line::say(to, &out, written);
+        if !line::say(to, &out, r.written) {
+            return None;
+        }
+        match r.state {
+            State::Cut => return None,
+            State::Wants if ended => {
+                if 0 < left {
+                    line::cut(to);
+                }
+                return None;
+            }
+            State::Wants | State::GoesOn => {}
+        }
         let receiver = r.receiver;
-        Printer {
+        Some(Printer {
             receiver,
             have: left,
-            going: goes_on(to, wrote, r.state, ended, left),
-        }
+        })
     }
 }
 
 // Prints what follows the first record; its first `have` bytes are in the log's room. A proved loop has to end, and
-// nothing says that the input does: the turns are counted down from more than a run takes.
+// nothing says that the input does: it has more turns than a run takes.
 fn print<R: Read, W: Write>(
     input: &mut R,
     to: &mut W,
@@ -92,17 +85,15 @@ fn print<R: Read, W: Write>(
     log: &mut [u8],
     have: usize,
 )
-    requires { Reached receiver × (have ≤ length log.old) }
+    requires reached { Reached receiver }
+    requires inside { have ≤ length log.old }
 {
-    let mut x = Printer {
-        receiver,
-        have,
-        going: true,
-    };
-    let mut turns = u64::MAX;
-    while 0 < turns && x.going {
-        x = x.turn(input, to, log);
-        turns -= 1;
+    let mut x = Printer { receiver, have };
+    for _ in 0..u64::MAX {
+        let Some(after) = x.turn(input, to, log) else {
+            return;
+        };
+        x = after;
     }
 }
 
@@ -119,13 +110,15 @@ fn start<R: Read, W: Write>(input: &mut R, to: &mut W, log: &mut [u8])
     requires { 16 ≤ length log.old }
 {
     let got = head(input, log);
-    let begun = Begun::part(log, got);
-    if begun.fault != 0 {
-        line::say(to, b"unit\n", 5);
-        return;
+    match Begun::part(log, got) {
+        Ok(begun) => {
+            let receiver = begun.receiver;
+            print(input, to, receiver, log, got - begun.took);
+        }
+        Err(_) => {
+            line::say(to, b"unit\n", 5);
+        }
     }
-    let receiver = begun.receiver;
-    print(input, to, receiver, log, got - begun.took);
 }
 
 fn main(rt: HostRuntime) {

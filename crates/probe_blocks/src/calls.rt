@@ -4,13 +4,7 @@ ghost use Rattle.lines.specs.Lines.{Stands, Says};
 ghost use Rattle.probe_blocks.specs.Calls.{built_text, build_line, header_line, block_line, frame_line};
 
 use crate::{body, print};
-use lines::line::{BEFORE, Line, unknown};
-
-fn index(x: u8) -> usize
-    ensures { (result ≡ x) × (result ≤ 255) }
-{
-    x as usize
-}
+use lines::line::line_of_build;
 
 // A build into this output.
 fn built(body: &[u8], out: &mut [u8], line: &mut [u8]) -> usize
@@ -20,57 +14,50 @@ fn built(body: &[u8], out: &mut [u8], line: &mut [u8]) -> usize
 {
     let sync = body::sync(body);
     let fields = body::fields(body);
+    // Kept: `as`, since a `usize` is no `From` of a `u32`.
     let n = records::four(body, 29) as usize;
     let b = build::build(sync, body[4], fields, n, &body[35..], out);
     print::build(line, b, out)
 }
 
-pub(crate) fn build(body: &[u8], line: &mut [u8]) -> Line
+pub(crate) fn build(body: &[u8], line: &mut [u8]) -> Option<usize>
     requires { 4096 ≤ length line.old }
     ensures { Says line.old (build_line body.now) line.new result }
 {
-    if body.len() < 35 {
-        return Line::Short;
-    }
-    let lent = records::two_at(body, 33) as usize;
-    if 1024 < lent {
-        return unknown(line);
-    }
-    let mut out = [BEFORE; 1024];
-    Line::Bytes(built(body, &mut out[..lent], line))
+    line_of_build(body, line, built)
 }
 
-pub(crate) fn header(body: &[u8], line: &mut [u8]) -> Line
+pub(crate) fn header(body: &[u8], line: &mut [u8]) -> Option<usize>
     requires { 512 ≤ length line.old }
     ensures { Says line.old (header_line body.now) line.new result }
 {
     if body.len() < 2 {
-        return Line::Short;
+        return None;
     }
-    let at = 2 + index(body[0]);
-    let end = at + index(body[1]);
+    let at = 2 + usize::from(body[0]);
+    let end = at + usize::from(body[1]);
     if body.len() < end {
-        return Line::Short;
+        return None;
     }
     let h = blocks::header::read_header(&body[2..at], &body[at..end]);
-    Line::Bytes(print::header(line, h))
+    Some(print::header(line, h))
 }
 
-pub(crate) fn block(body: &[u8], line: &mut [u8]) -> Line
+pub(crate) fn block(body: &[u8], line: &mut [u8]) -> Option<usize>
     requires { 512 ≤ length line.old }
     ensures { Says line.old (block_line body.now) line.new result }
 {
     let b = blocks::continuation::read_continuation(body);
-    Line::Bytes(print::block(line, b))
+    Some(print::block(line, b))
 }
 
-pub(crate) fn frame(body: &[u8], line: &mut [u8]) -> Line
+pub(crate) fn frame(body: &[u8], line: &mut [u8]) -> Option<usize>
     requires { 512 ≤ length line.old }
     ensures { Says line.old (frame_line body.now) line.new result }
 {
-    if body.len() < 3 {
-        return Line::Short;
-    }
-    let d = blocks::slots::due_frame(body[0], body[1], body[2]);
-    Line::Bytes(print::frame(line, d))
+    let [x, f, i, ..] = body else {
+        return None;
+    };
+    let d = blocks::slots::due_frame(*x, *f, *i);
+    Some(print::frame(line, d))
 }

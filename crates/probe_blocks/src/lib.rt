@@ -10,10 +10,10 @@ ghost use Rattle.std.specs.Prelude.{◌≤◌, length};
 ghost use Rattle.lines.specs.Lines.{Says};
 ghost use Rattle.probe_blocks.specs.Calls.{record_line};
 
-use lines::line::{Line, unknown};
+use lines::line::unknown;
 
 // The line of a record that leaves the receiver alone.
-pub fn answer(kind: u16, body: &[u8], line: &mut [u8]) -> Line
+pub fn answer(kind: u16, body: &[u8], line: &mut [u8]) -> Option<usize>
     requires { 4096 ≤ length line.old }
     ensures { Says line.old (record_line kind body.now) line.new result }
 {

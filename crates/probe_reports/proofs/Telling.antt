@@ -18,22 +18,22 @@ use Rattle.records.specs.Numbers.{four_at}
 use Rattle.lines.specs.Lines.{unknown_line, Stands, Says}
 use Rattle.probe_reports.specs.Reports.{unit_text, handed_by_reply, report_text, buffer_in, HeardInto, UnitTells}
 use Rattle.probe_reports.specs.Reports.{ReportTells}
-use Rattle.lines.specs.declared.line.Line.{Line}
-use Rattle.lines.specs.declared.line.Line.TheVariants.{Bytes, Short}
-use Rattle.probe_reports.specs.declared.ReceiverLine.{ReceiverLine}
+use Rattle.lines.specs.declared.line.Told.{Told}
+use Rattle.std.specs.declared.option.Option.{Option}
+use Rattle.std.specs.Prelude.{Some, None}
 use Rattle.lines.proofs.Outputs.{take_same}
 
 -- ---- settings
 
 module _ (before : Receiver) (old body : List ℕ) where
-  pub unit_short : length body < 12 → UnitTells before body old old (record { receiver = before; line = Short })
+  pub unit_short : length body < 12 → UnitTells before body old old (record { state = before; line = None })
   unfolding UnitTells
   unit_short h = rw (lt-leb 12 (length body) h) (refl, refl)
 
   pub unit_said : {new : List ℕ} {f : Fresh} {a b c n : ℕ} → 12 ≤ length body → a ≡ four_at body 0 → b ≡ four_at body 4
       → c ≡ four_at body 8 → f ≡ fresh_of a b c
       → Stands old (unit_text f.fault) new n
-      → UnitTells before body old new (record { receiver = f.receiver; line = Bytes n })
+      → UnitTells before body old new (record { state = f.receiver; line = Some n })
   unfolding UnitTells
   unit_said h p q r e w = rw (le-leb 12 (length body) h, ← p, ← q, ← r, ← e) (w, refl)
 
@@ -58,22 +58,22 @@ module _ (before : Receiver) (old body : List ℕ) where
       → let blocks = take (length body - 5) (drop 5 body) in
       Hears before (lent (get_or body 0 0) (get_or body 1 0) (get_or body 2 0) blocks) r buffer after
       → Stands old (report_text r.answer after) new n
-      → HeardInto before body buffer old new (record { receiver = r.receiver; line = Bytes n })
+      → HeardInto before body buffer old new (record { state = r.receiver; line = Some n })
   report_heard buffer {new} {after} {r} h w =
       let t : take (length body - 5) (drop 5 body) ≡ drop 5 body =
       take_all (length body - 5) (drop 5 body) (rw (length-drop 5 body) (omega arith)) in
       record { reply = r; after = after; hears = rw t at h; said = w; kept = refl }
 
-  pub report_short : length body < 5 → ReportTells before body old old (record { receiver = before; line = Short })
+  pub report_short : length body < 5 → ReportTells before body old old (record { state = before; line = None })
   unfolding ReportTells
   report_short h = rw (lt-leb 5 (length body) h) (refl, refl)
 
-  pub report_kind : (new : List ℕ) (x : Line) → 5 ≤ length body → 1024 < buffer_in body → Says old unknown_line new x
-      → ReportTells before body old new (record { receiver = before; line = x })
+  pub report_kind : (new : List ℕ) (x : Option ℕ) → 5 ≤ length body → 1024 < buffer_in body → Says old unknown_line new x
+      → ReportTells before body old new (record { state = before; line = x })
   unfolding ReportTells
   report_kind new x h g w = rw (le-leb 5 (length body) h, lt-leb (buffer_in body) 1024 g) (w, refl)
 
-  pub report_said : {new : List ℕ} {t : ReceiverLine} → 5 ≤ length body → buffer_in body ≤ 1024
+  pub report_said : {new : List ℕ} {t : Told Receiver} → 5 ≤ length body → buffer_in body ≤ 1024
       → HeardInto before body (take (buffer_in body) (replicate 1024 90)) old new t → ReportTells before body old new t
   unfolding ReportTells
   report_said h g w =

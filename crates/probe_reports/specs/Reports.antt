@@ -10,8 +10,8 @@ use Rattle.receiver.specs.declared.Reply.{Reply}
 use Rattle.receiver.specs.declared.Fresh.{Fresh}
 use Rattle.receiver.specs.declared.answer.Answer.{Answer}
 use Rattle.records.specs.Numbers.{two_at, four_at}
+use Rattle.lines.specs.declared.line.Told.{Told}
 use Rattle.lines.specs.Lines.{line_of, line_then, unknown_line, Says}
-use Rattle.probe_reports.specs.declared.ReceiverLine.{ReceiverLine}
 
 -- ---- The lines.
 
@@ -54,17 +54,17 @@ Either true a b = a
 Either false a b = b
 
 -- Nothing is called that gives another receiver.
-abbrev pub Same : Receiver → Option (List ℕ) → List ℕ → List ℕ → ReceiverLine → Type 0
-Same before line old new t = Says old line new t.line × (t.receiver ≡ before)
+abbrev pub Same : Receiver → Option (List ℕ) → List ℕ → List ℕ → Told Receiver → Type 0
+Same before line old new t = Says old line new t.line × (t.state ≡ before)
 
 -- The individual address, the group address and the MNI: the receiver is a fresh one.
 abbrev pub fresh_in : List ℕ → Fresh
 fresh_in body = fresh_of (four_at body 0) (four_at body 4) (four_at body 8)
 
-unfoldable pub UnitTells : Receiver → List ℕ → List ℕ → List ℕ → ReceiverLine → Type 0
+unfoldable pub UnitTells : Receiver → List ℕ → List ℕ → List ℕ → Told Receiver → Type 0
 UnitTells before body old new t =
     Either (leb 12 (length body))
-    (Says old (some (unit_text (fresh_in body).fault)) new t.line × (t.receiver ≡ (fresh_in body).receiver))
+    (Says old (some (unit_text (fresh_in body).fault)) new t.line × (t.state ≡ (fresh_in body).receiver))
     (Same before none old new t)
 
 -- A report: frame, slot, kind, the buffer's length, the lent blocks.
@@ -76,15 +76,15 @@ buffer_in body = two_at body 3
 
 -- It is heard, with this buffer for a message: the line is of a reply that `hear` promises, and the receiver is the
 -- reply's.
-pub record HeardInto (before : Receiver) (body buffer old new : List ℕ) (t : ReceiverLine) : Type 0 where
+pub record HeardInto (before : Receiver) (body buffer old new : List ℕ) (t : Told Receiver) : Type 0 where
   pub reply : Reply
   pub after : List ℕ
   pub hears : Hears before (lent_in body) reply buffer after
   pub said : Says old (some (report_text reply.answer after)) new t.line
-  pub kept : t.receiver ≡ reply.receiver
+  pub kept : t.state ≡ reply.receiver
 
 -- The buffer has as many bytes as the body says, at most 1,024, all 5A.
-unfoldable pub ReportTells : Receiver → List ℕ → List ℕ → List ℕ → ReceiverLine → Type 0
+unfoldable pub ReportTells : Receiver → List ℕ → List ℕ → List ℕ → Told Receiver → Type 0
 ReportTells before body old new t =
     Either (leb 5 (length body))
     (Either (leb (buffer_in body) 1024) (HeardInto before body (replicate (buffer_in body) 90) old new t)

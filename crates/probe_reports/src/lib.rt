@@ -9,22 +9,15 @@ ghost use Rattle.probe_reports.specs.Reports.{handed_by_reply, answer_numbers, l
 ghost use Rattle.probe_reports.specs.Reports.{HeardInto, UnitTells, ReportTells};
 
 use history::Lost;
-use lines::line::{BEFORE, Line, line_of, line_then, unknown};
+use lines::line::{BEFORE, Told, line_of, line_then, unknown};
 use receiver::Receiver;
 use receiver::answer::Answer;
-
-// The receiver after a record, and the record's line.
-#[derive(Clone, Copy)]
-pub struct ReceiverLine {
-    pub receiver: Receiver,
-    pub line: Line,
-}
 
 fn unit_line(out: &mut [u8], fault: u8) -> usize
     requires { 512 ≤ length out.old }
     ensures { Stands out.old (unit_text fault) out.new result }
 {
-    let ns = [fault as u64];
+    let ns = [u64::from(fault)];
     line_of(out, b"unit", &ns)
 }
 
@@ -33,26 +26,26 @@ fn answer_numbers(a: Answer) -> [u64; 12]
 {
     let g = a.fields;
     [
-        a.outcome as u64,
-        a.dropped as u64,
-        a.fault as u64,
+        u64::from(a.outcome),
+        u64::from(a.dropped),
+        u64::from(a.fault),
         a.bits as u64,
-        g.destination.kind as u64,
-        g.destination.ssi as u64,
-        g.source.kind as u64,
-        g.source.ssi as u64,
-        g.mni as u64,
-        g.message as u64,
-        g.width as u64,
+        u64::from(g.destination.kind),
+        u64::from(g.destination.ssi),
+        u64::from(g.source.kind),
+        u64::from(g.source.ssi),
+        u64::from(g.mni),
+        u64::from(g.message),
+        u64::from(g.width),
         g.elements,
     ]
 }
 
-// Of a message that is lost.
+// Of a message that is lost. Kept: `as` of a `usize`, of which a `u64` is no `From`.
 fn lost_numbers(x: Lost) -> [u64; 3]
     ensures { result ≡ lost_numbers x }
 {
-    [x.source as u64, x.message as u64, x.bits as u64]
+    [u64::from(x.source), u64::from(x.message), x.bits as u64]
 }
 
 fn report_line(out: &mut [u8], a: Answer, s: &[u8]) -> usize
@@ -64,15 +57,15 @@ fn report_line(out: &mut [u8], a: Answer, s: &[u8]) -> usize
     line_then(out, b"report", &ns, s, (a.bits + 7) / 8, &lost)
 }
 
-pub fn unit(before: Receiver, body: &[u8], line: &mut [u8]) -> ReceiverLine
+pub fn unit(before: Receiver, body: &[u8], line: &mut [u8]) -> Told<Receiver>
     requires { Reached before × (512 ≤ length line.old) }
-    ensures { Reached result.receiver
+    ensures { Reached result.state
         × UnitTells before body.now line.old line.new result }
 {
     if body.len() < 12 {
-        return ReceiverLine {
-            receiver: before,
-            line: Line::Short,
+        return Told {
+            state: before,
+            line: None,
         };
     }
     let fresh = Receiver::fresh(
@@ -81,46 +74,48 @@ pub fn unit(before: Receiver, body: &[u8], line: &mut [u8]) -> ReceiverLine
         records::four(body, 8),
     );
     let receiver = fresh.receiver;
-    ReceiverLine {
-        receiver,
-        line: Line::Bytes(unit_line(line, fresh.fault)),
+    Told {
+        state: receiver,
+        line: Some(unit_line(line, fresh.fault)),
     }
 }
 
 // A report with this buffer for a message.
-fn heard(before: Receiver, body: &[u8], message: &mut [u8], line: &mut [u8]) -> ReceiverLine
+fn heard(before: Receiver, body: &[u8], message: &mut [u8], line: &mut [u8]) -> Told<Receiver>
     requires { Reached before × (5 ≤ length body.now) × (length message.old ≤ 1024)
         × (4096 ≤ length line.old) }
-    ensures { Reached result.receiver
+    ensures { Reached result.state
         × HeardInto before body.now message.old line.old line.new result }
 {
     let reply = before.hear(body[0], body[1], body[2], &body[5..], message);
     let after = reply.receiver;
     let answer = reply.answer;
-    ReceiverLine {
-        receiver: after,
-        line: Line::Bytes(report_line(line, answer, message)),
+    Told {
+        state: after,
+        line: Some(report_line(line, answer, message)),
     }
 }
 
-pub fn report(before: Receiver, body: &[u8], line: &mut [u8]) -> ReceiverLine
+pub fn report(before: Receiver, body: &[u8], line: &mut [u8]) -> Told<Receiver>
     requires { Reached before × (4096 ≤ length line.old) }
-    ensures { Reached result.receiver
+    ensures { Reached result.state
         × ReportTells before body.now line.old line.new result }
 {
     if body.len() < 5 {
-        return ReceiverLine {
-            receiver: before,
-            line: Line::Short,
+        return Told {
+            state: before,
+            line: None,
         };
     }
-    let lent = records::two_at(body, 3) as usize;
+    let lent = usize::from(records::two_at(body, 3));
     if 1024 < lent {
-        return ReceiverLine {
-            receiver: before,
+        return Told {
+            state: before,
             line: unknown(line),
         };
     }
+    // Kept: lent here and not by `line_of_build`, since a report goes to a receiver too, and a buffer that is too long
+    // leaves that as it was.
     let mut message = [BEFORE; 1024];
     heard(before, body, &mut message[..lent], line)
 }

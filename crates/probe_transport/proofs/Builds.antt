@@ -1,20 +1,18 @@
 -- The laws of a build's line. Assumes nothing.
 use mathlib.Core.Path.{◌≡◌, refl}
 use mathlib.Core.List.{List}
-use Prim.Native.Nat.{ℕ, zero, suc, ◌+◌, ◌-◌, ◌*◌, ◌/◌, ◌≤◌, ◌<◌}
+use Prim.Native.Nat.{ℕ, zero, suc, ◌+◌, ◌-◌, ◌*◌, ◌/◌, ◌≤◌}
 use native.Mathlib.Omega.{arith}
 use lib.Dec.{leb}
-use lib.ListN.{length, take, drop, replicate}
-use borrow.Author.Tests.{le-leb, lt-leb, leb-true}
+use lib.ListN.{length, take, drop}
+use borrow.Author.Tests.{leb-true}
 use Rattle.blocks.proofs.FaultLaws.{all_zero, holds}
 use Rattle.transport.specs.Building.{bits_for, build_checks, build_fault, built_as, sdu_of, out_of}
 use Rattle.transport.specs.declared.Message.{Message}
 use Rattle.transport.specs.declared.Sdu.{Sdu}
-use Rattle.lines.specs.Lines.{unknown_line, Stands, Says}
-use Rattle.lines.specs.declared.line.Line.TheVariants.{Bytes, Short}
-use Rattle.lines.proofs.Outputs.{take_same}
-use Rattle.probe_transport.specs.Body.{carrier_in, flag_in, message_in, user_bits_in, output_in}
-use Rattle.probe_transport.specs.Calls.{written_by, sdu_text, built_text, build_line}
+use Rattle.lines.specs.Lines.{Stands}
+use Rattle.probe_transport.specs.Body.{carrier_in, flag_in, message_in, user_bits_in}
+use Rattle.probe_transport.specs.Calls.{written_by, sdu_text, built_text}
 use Rattle.probe_transport.proofs.Saying.{rest_lent}
 
 -- the bytes of so many bits
@@ -38,22 +36,6 @@ written_inside c f m n bytes lent = inside_when (build_fault c f m n bytes lent)
     inside_when : (x : ℕ) → build_fault c f m n bytes lent ≡ x → written_by (built_as x (bits_for c f m n)) ≤ lent
     inside_when zero e = bytes_inside (bits_for c f m n) lent (built_inside c f m n bytes lent e)
     inside_when (suc x) e = omega arith
-
-pub build_short : (old body : List ℕ) → length body < 35 → Says old (build_line body) old Short
-unfolding build_line
-build_short old body h = rw (lt-leb 35 (length body) h) refl
-
-module _ (body : List ℕ) (h : 35 ≤ length body) where
-  pub build_kind : 1024 < output_in body → build_line body ≡ unknown_line
-  unfolding build_line
-  build_kind g = rw (le-leb 35 (length body) h, lt-leb (output_in body) 1024 g) refl
-
-  pub build_said : (old : List ℕ) {new : List ℕ} {n : ℕ} → output_in body ≤ 1024
-      → Stands old (built_text body (take (output_in body) (replicate 1024 90))) new n
-      → Says old (build_line body) new (Bytes n)
-  unfolding build_line
-  build_said old g w =
-      rw (le-leb 35 (length body) h, le-leb (output_in body) 1024 g) (rw (take_same (output_in body) 1024 90 g) at w)
 
 pub built_said : (old body out : List ℕ) {new after : List ℕ} {m : Message} {b : Sdu} {n r : ℕ} → m ≡ message_in body
     → n ≡ user_bits_in body

@@ -12,10 +12,10 @@ use Rattle.bookings.specs.declared.Bookings.{Bookings}
 use Rattle.bookings.specs.declared.Booked.{Booked}
 use Rattle.bookings.specs.declared.Reply.{Reply}
 use Rattle.records.specs.Numbers.{four_at}
+use Rattle.lines.specs.declared.line.Told.{Told}
 use Rattle.lines.specs.Lines.{line_of, line_with, from_body, kind_text, Says}
 use Rattle.probe_transport.specs.Body.{fields_in, n_in, sdu_in, lent_in}
 use Rattle.probe_transport.specs.Body.{carrier_in, flag_in, message_in, user_bits_in, output_in, user_in}
-use Rattle.probe_transport.specs.declared.BookingsLine.{BookingsLine}
 
 -- ---- The lines.
 
@@ -88,18 +88,18 @@ build_line body =
 -- ---- What a body makes of the bookings and prints.
 
 -- The bookings are fresh ones.
-unfoldable pub FreshTells : List ℕ → List ℕ → BookingsLine → Type 0
-FreshTells old new t = Says old (some fresh_text) new t.line × (t.bookings ≡ bookings_at start)
+unfoldable pub FreshTells : List ℕ → List ℕ → Told Bookings → Type 0
+FreshTells old new t = Says old (some fresh_text) new t.line × (t.state ≡ bookings_at start)
 
 -- A message from this source: the line is of a reply that `book` promises, and the bookings are the reply's.
-pub record Called (before : Bookings) (source : ℕ) (body old new : List ℕ) (t : BookingsLine) : Type 0 where
+pub record Called (before : Bookings) (source : ℕ) (body old new : List ℕ) (t : Told Bookings) : Type 0 where
   pub reply : Reply
   pub books : Books before (lent_in source body) reply
   pub said : Says old (some (book_text reply.booked)) new t.line
-  pub kept : t.bookings ≡ reply.bookings
+  pub kept : t.state ≡ reply.bookings
 
 -- The source, and then what a message is read of. A body that is too short prints nothing, and leaves the bookings
 -- alone.
-pub record BookTells (before : Bookings) (body old new : List ℕ) (t : BookingsLine) : Type 0 where
+pub record BookTells (before : Bookings) (body old new : List ℕ) (t : Told Bookings) : Type 0 where
   pub called : 17 ≤ length body → Called before (four_at body 0) (drop 4 body) old new t
-  pub short : length body < 17 → Says old none new t.line × (t.bookings ≡ before)
+  pub short : length body < 17 → Says old none new t.line × (t.state ≡ before)

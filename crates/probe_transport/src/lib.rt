@@ -11,27 +11,21 @@ ghost use Rattle.probe_transport.specs.Calls.{read_line, built_text, build_line}
 ghost use Rattle.probe_transport.specs.Calls.{FreshTells, Called, BookTells};
 
 use bookings::Bookings;
-use lines::line::{BEFORE, Line, unknown};
-
-// The bookings after a record, and the record's line.
-#[derive(Clone, Copy)]
-pub struct BookingsLine {
-    pub bookings: Bookings,
-    pub line: Line,
-}
+use lines::line::{Told, line_of_build};
 
 // Reads a message.
-pub fn read(body: &[u8], line: &mut [u8]) -> Line
+pub fn read(body: &[u8], line: &mut [u8]) -> Option<usize>
     requires { 512 ≤ length line.old }
     ensures { Says line.old (read_line body.now) line.new result }
 {
     if body.len() < 13 {
-        return Line::Short;
+        return None;
     }
     let fields = body::fields(0, body);
+    // Kept: `as`, since a `usize` is no `From` of a `u32`.
     let n = records::four(body, 9) as usize;
     let t = transport::read(fields, n, &body[13..]);
-    Line::Bytes(print::read(line, t))
+    Some(print::read(line, t))
 }
 
 // Builds a message into this output.
@@ -41,66 +35,60 @@ fn built(body: &[u8], out: &mut [u8], line: &mut [u8]) -> usize
         line.new result }
 {
     let message = body::message(body);
+    // Kept: `as`, since a `usize` is no `From` of a `u32`.
     let n = records::four(body, 29) as usize;
     let b = transport::build(body[0], body[1], message, n, &body[35..], out);
     print::sdu(line, b, out)
 }
 
 // Builds a message.
-pub fn build(body: &[u8], line: &mut [u8]) -> Line
+pub fn build(body: &[u8], line: &mut [u8]) -> Option<usize>
     requires { 4096 ≤ length line.old }
     ensures { Says line.old (build_line body.now) line.new result }
 {
-    if body.len() < 35 {
-        return Line::Short;
-    }
-    let lent = records::two_at(body, 33) as usize;
-    if 1024 < lent {
-        return unknown(line);
-    }
-    let mut out = [BEFORE; 1024];
-    Line::Bytes(built(body, &mut out[..lent], line))
+    line_of_build(body, line, built)
 }
 
 // Makes the bookings fresh ones.
-pub fn fresh(line: &mut [u8]) -> BookingsLine
+pub fn fresh(line: &mut [u8]) -> Told<Bookings>
     requires { 512 ≤ length line.old }
-    ensures { Reached result.bookings × FreshTells line.old line.new result }
+    ensures { Reached result.state × FreshTells line.old line.new result }
 {
     let bookings = Bookings::fresh();
-    BookingsLine {
-        bookings,
-        line: Line::Bytes(text::copy(line, 0, b"bookings\n")),
+    Told {
+        state: bookings,
+        line: Some(text::copy(line, 0, b"bookings\n")),
     }
 }
 
 // Books a message that came from this source.
-fn booked(before: Bookings, source: u32, body: &[u8], line: &mut [u8]) -> BookingsLine
+fn booked(before: Bookings, source: u32, body: &[u8], line: &mut [u8]) -> Told<Bookings>
     requires { Reached before × (13 ≤ length body.now) × (512 ≤ length line.old) }
-    ensures { Reached result.bookings
+    ensures { Reached result.state
         × Called before source body.now line.old line.new result }
 {
     let fields = body::fields(source, body);
+    // Kept: `as`, since a `usize` is no `From` of a `u32`.
     let n = records::four(body, 9) as usize;
     let reply = before.book(fields, n, &body[13..]);
     let after = reply.bookings;
     let answer = reply.booked;
-    BookingsLine {
-        bookings: after,
-        line: Line::Bytes(print::book(line, answer)),
+    Told {
+        state: after,
+        line: Some(print::book(line, answer)),
     }
 }
 
 // Books a message.
-pub fn book(before: Bookings, body: &[u8], line: &mut [u8]) -> BookingsLine
+pub fn book(before: Bookings, body: &[u8], line: &mut [u8]) -> Told<Bookings>
     requires { Reached before × (512 ≤ length line.old) }
-    ensures { Reached result.bookings
+    ensures { Reached result.state
         × BookTells before body.now line.old line.new result }
 {
     if body.len() < 17 {
-        return BookingsLine {
-            bookings: before,
-            line: Line::Short,
+        return Told {
+            state: before,
+            line: None,
         };
     }
     booked(before, records::four(body, 0), &body[4..], line)

@@ -1,4 +1,6 @@
 // The answers' lines.
+// Kept: a function for each kind, since word and numbers are all that is in one; `as` of a `usize`, of which a `u64` is
+// no `From`.
 ghost use Rattle.std.specs.Prelude.{◌≡◌, ◌≤◌, length};
 ghost use Rattle.lines.specs.Lines.{Stands};
 ghost use Rattle.probe_transport.specs.Calls.{transport_numbers, transport_text, written_by, sdu_text, book_text};
@@ -12,20 +14,20 @@ fn transport_numbers(t: Transport) -> [u64; 17]
 {
     let m = t.message;
     [
-        t.fault as u64,
-        m.kind as u64,
-        m.addressed as u64,
-        m.mni as u64,
-        m.ssi as u64,
-        m.protocol as u64,
-        m.request as u64,
-        m.short as u64,
-        m.required as u64,
-        m.storage as u64,
-        m.status as u64,
-        m.reference as u64,
-        m.validity as u64,
-        m.forward as u64,
+        u64::from(t.fault),
+        u64::from(m.kind),
+        u64::from(m.addressed),
+        u64::from(m.mni),
+        u64::from(m.ssi),
+        u64::from(m.protocol),
+        u64::from(m.request),
+        u64::from(m.short),
+        u64::from(m.required),
+        u64::from(m.storage),
+        u64::from(m.status),
+        u64::from(m.reference),
+        u64::from(m.validity),
+        u64::from(m.forward),
         m.address,
         t.first as u64,
         t.bits as u64,
@@ -44,7 +46,7 @@ pub(crate) fn sdu(out: &mut [u8], b: Sdu, s: &[u8]) -> usize
     requires { (written_by b ≤ length s.now) × (length s.now ≤ 1024) × (4096 ≤ length out.old) }
     ensures { Stands out.old (sdu_text b s.now) out.new result }
 {
-    let ns = [b.fault as u64, b.bits as u64];
+    let ns = [u64::from(b.fault), b.bits as u64];
     line_with(out, b"sdu", &ns, s, (b.bits + 7) / 8)
 }
 
@@ -54,10 +56,10 @@ pub(crate) fn book(out: &mut [u8], b: Booked) -> usize
 {
     let t = b.transport;
     let ns = [
-        t.fault as u64,
-        b.mark as u64,
-        t.message.kind as u64,
-        t.message.reference as u64,
+        u64::from(t.fault),
+        u64::from(b.mark),
+        u64::from(t.message.kind),
+        u64::from(t.message.reference),
     ];
     line_of(out, b"book", &ns)
 }

@@ -1,5 +1,3 @@
--- The laws of reading, and a walk that methods like these share.
+-- The laws of reading.
 pub mod Examples
-pub mod Held
-pub mod Moving
 pub mod Steps

@@ -1,69 +1,46 @@
 -- A step from a position: when it is refused, and where it leads.
-use mathlib.Core.Path.{◌≡◌, refl, sym, subst, ◌∙◌}
+use mathlib.Core.Path.{◌≡◌, refl, ap, ap₂, ◌∙◌}
 use mathlib.Core.Bool.{Bool, true, false, cond}
 use mathlib.Core.List.{List}
 use Prim.Native.Nat.{ℕ, ◌+◌, ◌^◌, ◌<◌, ◌≤◌}
+use Rattle.std.proofs.Common.{Ok}
 use native.Mathlib.Omega.{arith}
 use lib.Dec.{ltb}
 use lib.ListN.{drop}
 use lib.Pow.{pow_pos}
-use borrow.Author.Tests.{ltb-false, lt-ltb, le-ltb}
-use Rattle.bits.specs.Bits.{num, bits_of, field}
+use borrow.Author.Tests.{ltb-false}
+use Rattle.bits.specs.Bits.{num, bits_of}
 use Rattle.bits.proofs.Numbers.{num_take_lt}
-use Rattle.reader.specs.Reading.{left_of, refused_at, made_to, past, skipped_at, taken_at}
+use Rattle.reader.specs.Reading.{left_of, refused_at, made_to, skipped_at, taken_at, Taken, answer_of, number_answer}
 use Rattle.reader.specs.declared.Step.{Step}
 
--- Fewer bits are left.
-pub too_far : (s : List ℕ) (at n v : ℕ) {l : ℕ} → l ≡ left_of s at → l < n → refused_at 1 at ≡ past s at n v
-too_far s at n v e h = rw (sym e, lt-ltb _ _ h) refl
-
--- As many are left.
-pub near : (s : List ℕ) (at n v : ℕ) {l : ℕ} → l ≡ left_of s at → n ≤ l → made_to v (at + n) ≡ past s at n v
-near s at n v e h = rw (sym e, le-ltb _ _ h) refl
-
--- A width that one take has, and one that it has not.
-pub narrow : (s : List ℕ) (at w : ℕ) → w ≤ 56 → past s at w (field at w (bits_of s)) ≡ taken_at s at w
-unfolding taken_at
-narrow s at w h = rw (le-ltb _ _ h) refl
-
-pub wide : (s : List ℕ) (at w : ℕ) → 56 < w → refused_at 13 at ≡ taken_at s at w
-unfolding taken_at
-wide s at w h = rw (lt-ltb _ _ h) refl
-
--- A skip that stays where it is was refused, or had no bits to pass. A take of as many bits is the same step.
-same_if : (d : Bool) (at w v : ℕ) → (w ≡ 0 → v ≡ 0) → (cond d (refused_at 1 at) (made_to 0 (at + w))).at ≡ at
-    → cond d (refused_at 1 at) (made_to 0 (at + w)) ≡ cond d (refused_at 1 at) (made_to v (at + w))
-same_if true at w v none h = refl
-same_if false at w v none h = let z : w ≡ 0 = omega (arith, h) in rw (none z) refl
-
-pub stays : (s : List ℕ) (at w : ℕ) {t : Step} → t ≡ skipped_at s at w → t.at ≡ at → w ≤ 56 → t ≡ taken_at s at w
-unfolding skipped_at num
-stays s at w e h n =
-    e ∙ same_if (ltb (left_of s at) w) at w (field at w (bits_of s)) (λ z. rw z refl)
-    (subst (λ (t : Step). t.at ≡ at) e h) ∙ narrow s at w n
-
--- A skip that goes on: it had bits to pass, and as many were left.
-pub record Went (l at w to : ℕ) : Type 0 where
-  pub some : 0 < w
-  pub there : w ≤ l
-  pub is : to ≡ at + w
-
-went_if : (d : Bool) (l at w : ℕ) → ltb l w ≡ d → ((cond d (refused_at 1 at) (made_to 0 (at + w))).at ≡ at → ⊥)
-    → Went l at w (cond d (refused_at 1 at) (made_to 0 (at + w))).at
-went_if true l at w e h = absurd (h refl)
-went_if false l at w e h = record { some = omega (arith, h); there = ltb-false l w e; is = refl }
-
-pub goes : (s : List ℕ) (at w : ℕ) {t : Step} → t ≡ skipped_at s at w → (t.at ≡ at → ⊥)
-    → Went (left_of s at) at w t.at
+-- A step that was made: as many bits were left.
+pub there : (s : List ℕ) (at n : ℕ) {v to : ℕ} → made_to v to ≡ skipped_at s at n → n ≤ left_of s at
 unfolding skipped_at
-goes s at w e =
-    subst (λ (t : Step). (t.at ≡ at → ⊥) → Went (left_of s at) at w t.at) (sym e)
-    (went_if (ltb (left_of s at) w) (left_of s at) at w refl)
+there s at n {v} {to} e = when (ltb (left_of s at) n) refl e
+  where
+    when : (d : Bool) → ltb (left_of s at) n ≡ d → made_to v to ≡ cond d (refused_at 1 at) (made_to 0 (at + n))
+        → n ≤ left_of s at
+    when true f e = absurd (omega (arith, ap (λ (x : Step). x.fault) e))
+    when false f e = ltb-false (left_of s at) n f
 
--- With the number of these bits it is a take.
-pub taken : (s : List ℕ) (at w : ℕ) {v to : ℕ} → v ≡ field at w (bits_of s) → Went (left_of s at) at w to → w ≤ 56
-    → made_to v to ≡ taken_at s at w
-taken s at w e g n = rw (e, g.is) (near s at w (field at w (bits_of s)) refl g.there ∙ narrow s at w n)
+-- No bits are taken as they are skipped.
+pub none_taken : (s : List ℕ) (at w : ℕ) → w ≡ 0 → skipped_at s at w ≡ taken_at s at w
+unfolding skipped_at taken_at num
+none_taken s at w z = rw z refl
+
+-- A skip has no number.
+pub skip_said : (s : List ℕ) (at n : ℕ) {t : Step} {v : ℕ} → t ≡ skipped_at s at n
+    → number_answer (Ok v) ≡ answer_of t → record { fault = 0; value = 0 } ≡ answer_of (skipped_at s at n)
+unfolding skipped_at
+skip_said s at n e a =
+    let f : 0 ≡ (skipped_at s at n).fault = ap (λ (x : Taken). x.fault) a ∙ ap (λ (x : Step). x.fault) e in
+    let v : 0 ≡ (skipped_at s at n).value = when (ltb (left_of s at) n) in
+    ap₂ (λ (k l : ℕ). record { fault = k; value = l }) f v
+  where
+    when : (d : Bool) → 0 ≡ (cond d (refused_at 1 at) (made_to 0 (at + n))).value
+    when true = refl
+    when false = refl
 
 -- The number of w bits is below 2 ^ w; so is the 0 of a refusal.
 small_if : (d e : Bool) (at w v : ℕ) → v < 2 ^ w

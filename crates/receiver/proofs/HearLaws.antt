@@ -1,13 +1,12 @@
 -- What the code makes of an accepted report is what the step makes of it, and so what the history asks for. Assumes
 -- nothing.
 use mathlib.Core.Path.{◌≡◌, refl, sym, ap, ap₂, ◌∙◌, subst}
-use mathlib.Core.Bool.{Bool, true, false, cond}
+use mathlib.Core.Bool.{Bool, true, false, not, cond}
 use mathlib.Core.List.{List, [], ◌++◌}
-use Prim.Native.Nat.{ℕ, suc, ◌+◌, ◌≤◌, ◌<◌}
+use Prim.Native.Nat.{ℕ, suc, ◌+◌, ◌≤◌}
 use native.Mathlib.Omega.{arith}
-use lib.Dec.{eqb}
-use lib.ListN.{length, replicate}
-use borrow.Author.Tests.{eqb-true, eqb-false}
+use lib.ListN.{length}
+use Rattle.std.specs.Prelude.{Result, Ok, Err, is_ok, eqb}
 use Rattle.store.specs.Store.{store_of, handed}
 use Rattle.history.specs.Line.{Line, start, ◌▸◌}
 use Rattle.history.specs.Slots.{due, no_loss, Heard, Report, header_in, more_in, countdown_in, bits_in}
@@ -24,9 +23,12 @@ use Rattle.history.specs.declared.Nears.{Nears}
 use Rattle.history.specs.declared.Open.{Open}
 use Rattle.history.specs.declared.Lost.{Lost}
 use Rattle.history.specs.declared.Verdict.{Verdict}
+use Rattle.history.specs.declared.Outcome.TheVariants.{Quiet}
 use Rattle.history.specs.declared.What.TheVariants.{Nothing}
-use Rattle.history.proofs.Verdicts.{absurd_bool, Hands, no_hand, hand, Comes, passing, missing, keeping, closing}
-use Rattle.history.proofs.Verdicts.{heading, comes, rest_at}
+use Rattle.blocks.specs.Faults.{number_of, refusal}
+use Rattle.blocks.specs.declared.fault.Fault.{Fault}
+use Rattle.history.proofs.Verdicts.{absurd_bool}
+use Rattle.history.proofs.Verdicts.{rest_at}
 use Rattle.history.proofs.Bounds.{Small}
 use Rattle.history.proofs.Theorems.{theorem_told, theorem_dropped}
 use Rattle.history.proofs.LostHolds.{theorem_lost}
@@ -47,6 +49,7 @@ use Rattle.receiver.specs.declared.Receiver.{Receiver}
 use Rattle.receiver.specs.declared.Reply.{Reply}
 use Rattle.receiver.proofs.AcceptedLaws.{passes, last_named, follows_is, small, few_near, free_near}
 use Rattle.receiver.proofs.AcceptedLaws.{no_assembly_is}
+use Rattle.receiver.proofs.FaultLaws.{number_some}
 use Rattle.receiver.proofs.TellLaws.{handed_none}
 
 abbrev place : Lent → Place
@@ -58,18 +61,13 @@ bits_left : (t : Bool) (j : List Bool) → cond t (length j) 0 ≡ length (cond 
 bits_left true j = refl
 bits_left false j = refl
 
-store_left : (t : Bool) (j : List Bool) → cond t (store_of j) (store_of []) ≡ store_of (cond t j [])
+store_left : (t : Bool) (j : List Bool) → cond (not t) (store_of []) (store_of j) ≡ store_of (cond t j [])
 store_left true j = refl
 store_left false j = refl
 
-places_left : (t : Bool) (ns : List Near)
-    → cond t (flat (places_of ns)) (replicate 21 0) ≡ flat (places_of (older_near t ns))
-places_left true ns = refl
-places_left false ns = refl
-
-count_left : (t : Bool) (ns : List Near) → cond t (length ns) 0 ≡ length (older_near t ns)
-count_left true ns = refl
-count_left false ns = refl
+nears_left : (t : Bool) (ns : List Near) → cond (not t) (nears_of []) (nears_of ns) ≡ nears_of (older_near t ns)
+nears_left true ns = refl
+nears_left false ns = refl
 
 module _ (s : Settings) (ls : Line Event) {before : Receiver} (k : Leads s ls before) (l : Lent) where
   abbrev state : State
@@ -91,35 +89,32 @@ module _ (s : Settings) (ls : Line Event) {before : Receiver} (k : Leads s ls be
     run_is : older_run turn q before.assembly.run ≡ left.assembly.run
     run_is = rw (turn_is, k.there) refl
 
-    places_is : cond turn before.near.places (replicate 21 0) ≡ flat (places_of left.near)
-    places_is = rw (turn_is, k.there) (places_left (in_turn state.last q) state.near)
-
-    count_is : cond turn before.near.count 0 ≡ length left.near
-    count_is = rw (turn_is, k.there) (count_left (in_turn state.last q) state.near)
+    near_is : cond (not turn) (nears_of []) before.near ≡ nears_of left.near
+    near_is = rw (turn_is, k.there) (nears_left (in_turn state.last q) state.near)
 
     bits_is : cond turn before.assembly.bits 0 ≡ length left.assembly.joined
     bits_is = rw (turn_is, k.there) (bits_left (in_turn state.last q) state.assembly.joined)
 
-    store_is : cond turn before.assembly.store (store_of []) ≡ store_of left.assembly.joined
+    store_is : cond (not turn) (store_of []) before.assembly.store ≡ store_of left.assembly.joined
     store_is = rw (turn_is, k.there) (store_left (in_turn state.last q) state.assembly.joined)
 
 -- ---- what a report brings, by the fault that it is refused for
 
-pub brings_fault : {f : ℕ} (s : Settings) (l : Lent) → (f ≡ 0 → ⊥) → {x : Brought} → x ≡ headless Nothing f 0 0
-    → Brings f s l x
-brings_fault s l n e =
+pub brings_fault : (f : Fault) (s : Settings) (l : Lent) {x : Brought} → x ≡ headless Nothing (number_of f) 0 0
+    → Brings (number_of f) s l x
+brings_fault f s l e =
     rw e
     (record {
-      accepted = λ z. absurd (n z);
+      accepted = λ z. absurd (number_some f z);
       refused = λ _. refl;
       inside = record { ordered = omega arith; within = omega arith; near = omega arith };
       few = omega arith;
       falls = omega arith;
     })
 
-pub brings_read : {f : ℕ} {s : Settings} {l : Lent} → f ≡ 0 → {x : Brought} → Reads s l x → Brings f s l x
-brings_read z r =
-    record { accepted = λ _. r; refused = λ n. absurd (n z); inside = r.inside; few = r.few; falls = r.falls }
+pub brings_read : {s : Settings} {l : Lent} {x : Brought} → Reads s l x → Brings 0 s l x
+brings_read r =
+    record { accepted = λ _. r; refused = λ n. absurd (n refl); inside = r.inside; few = r.few; falls = r.falls }
 
 -- ---- what the code asks for on the way
 
@@ -157,56 +152,24 @@ module _ {before : Receiver} (k : Reached before) (turn : Bool) where
   near_few : length kept_near ≤ 7
   near_few = older_few turn _ (few_near k.settings k.heard k.leads.accepted)
 
-  pub places_known : {places : List ℕ} → places ≡ cond turn before.near.places (replicate 21 0)
-      → places ≡ flat (places_of kept_near)
-  places_known e = e ∙ rw k.leads.there (places_left turn (after (reports k.settings k.heard)).near)
+  pub near_known : {near : Nears} → near ≡ cond (not turn) (nears_of []) before.near → near ≡ nears_of kept_near
+  near_known e = e ∙ rw k.leads.there (nears_left turn (after (reports k.settings k.heard)).near)
 
-  pub count_known : {n : ℕ} → n ≡ cond turn before.near.count 0 → n ≡ length kept_near
-  count_known e = e ∙ rw k.leads.there (count_left turn (after (reports k.settings k.heard)).near)
+  pub count_few : {near : Nears} → near ≡ cond (not turn) (nears_of []) before.near → near.count ≤ 7
+  count_few e = omega (arith, ap (λ (n : Nears). n.count) (near_known e), near_few)
 
-  pub count_few : {n : ℕ} → n ≡ cond turn before.near.count 0 → n ≤ 7
-  count_few e = omega (arith, count_known e, near_few)
-
-few_hands : {n : List Near} {x : Heard} {o : ℕ} {near : Bool} → Hands n x o near → o ≤ 5
-few_hands (no_hand w) = omega arith
-few_hands (hand true w e) = omega arith
-few_hands (hand false w e) = omega arith
-
-few : {a : Open} {n : List Near} {q : Place} {lost : Bool} {x : Heard} {v : Verdict} → Comes a n q lost x v
-    → v.outcome ≤ 5
-few (passing f d h) = few_hands h
-few (missing f d u h) = few_hands h
-few (keeping b d l) = omega arith
-few (closing b d l) = omega arith
-few (heading true w) = omega arith
-few (heading false w) = omega arith
-
-quiet_nothing : (due lost : Bool) → (on_nothing due lost).outcome ≡ 0
+quiet_nothing : (due lost : Bool) → (on_nothing due lost).outcome ≡ Quiet
 quiet_nothing true lost = refl
 quiet_nothing false lost = refl
 
-module _ {f : ℕ} {s : Settings} {l : Lent} {x : Brought} (b : Brings f s l x) (a : Open) (n : List Near) (q : Place)
-    (lost : Bool) {v : Verdict} (e : v ≡ judge x.what a n q x.meant x.raw x.countdown lost) where
-  few_read : f ≡ 0 → v.outcome ≤ 5
-  few_read z = rw (e, (b.accepted z).shows) (few (comes a n q lost (heard s l)))
-
-  quiet_refused : (f ≡ 0 → ⊥) → v.outcome ≡ 0
-  quiet_refused z = rw (e, b.refused z) (quiet_nothing (is_due a q) lost)
-
-  few_when : (d : Bool) → eqb f 0 ≡ d → v.outcome ≤ 5
-  few_when true d = few_read (eqb-true f 0 d)
-  few_when false d = omega (arith, quiet_refused (eqb-false f 0 d))
-
-  pub few_outcomes : v.outcome ≤ 5
-  few_outcomes = few_when (eqb f 0) refl
-
-  -- a buffer is written to only where it is long enough
-  room_when : {m : ℕ} → (f ≡ 0 → 512 ≤ m) → (d : Bool) → eqb f 0 ≡ d → 0 < v.outcome → 512 ≤ m
-  room_when h true d o = h (eqb-true f 0 d)
-  room_when h false d o = absurd (omega (arith, quiet_refused (eqb-false f 0 d)))
-
-  pub tells_inside : {m : ℕ} → (f ≡ 0 → 512 ≤ m) → 0 < v.outcome → 512 ≤ m
-  tells_inside h = room_when h (eqb f 0) refl
+-- a buffer is written to only where it is long enough
+pub tells_inside : (a : Result (Unit {0}) Fault) {s : Settings} {l : Lent} {x : Brought} → Brings (refusal a) s l x
+    → (o : Open) (n : List Near) (q : Place) (lost : Bool) {v : Verdict}
+    → v ≡ judge x.what o n q x.meant x.raw x.countdown lost
+    → {m : ℕ} → (refusal a ≡ 0 → 512 ≤ m) → (v.outcome ≡ Quiet → ⊥) → 512 ≤ m
+tells_inside (Ok z) b o n q lost e h u = h refl
+tells_inside (Err f) b o n q lost e h u =
+    absurd (u (rw (e, b.refused (number_some f)) (quiet_nothing (is_due o q) lost)))
 
 -- ---- a place for the header that is kept
 
@@ -214,89 +177,88 @@ none_near : (due lost : Bool) → (on_nothing due lost).near ≡ false
 none_near true lost = refl
 none_near false lost = refl
 
-module _ {before : Receiver} (k : Reached before) (turn : Bool) {known : ℕ} {places : List ℕ}
-    (c : known ≡ cond turn before.near.count 0) (e : places ≡ cond turn before.near.places (replicate 21 0))
-  where
-    abbrev ns : List Near
-    ns = kept_near k turn
+module _ {before : Receiver} (k : Reached before) (turn : Bool) {near : Nears}
+    (e : near ≡ cond (not turn) (nears_of []) before.near) where
+  abbrev ns : List Near
+  ns = kept_near k turn
 
-    pub judged_kept : (x : Brought) (a : Open) (q : Place) (lost : Bool) {v : Verdict}
-        → Judged x a places known q lost v → v ≡ judge x.what a ns q x.meant x.raw x.countdown lost
-    judged_kept = judged_list ns (count_known k turn c) (places_known k turn e)
+  count_known : near.count ≡ length ns
+  count_known = ap (λ (n : Nears). n.count) (near_known k turn e)
 
-    module _ (over : Bool) {left : ℕ} {new : List ℕ} (f : Fallen over places known left new) where
-      left_is : left ≡ length (fallen_when over ns)
-      left_is =
-          (f (places_of ns) (places_known k turn e)).0
-          ∙ rw (count_known k turn c) (ap (λ (m : List Near). length (fallen_when over m)) (places_take ns))
+  places_known : near.places ≡ flat (places_of ns)
+  places_known = ap (λ (n : Nears). n.places) (near_known k turn e)
 
-      pub left_few : left ≤ 7
-      left_few = omega (arith, left_is, fewer_left over ns, count_few k turn c, count_known k turn c)
+  pub judged_kept : (x : Brought) (a : Open) (q : Place) (lost : Bool) {v : Verdict}
+      → Judged x a near.places near.count q lost v → v ≡ judge x.what a ns q x.meant x.raw x.countdown lost
+  judged_kept = judged_list ns count_known places_known
 
-      pub left_free : (fault : ℕ) (l : Lent) → turn ≡ cond (eqb fault 0) (follows before.place (place l)) true
-          → over ≡ cond (eqb fault 0) (is_over (place l)) false → {x : Brought} → Brings fault before.settings l x
-          → (a : Open) (q : Place) (lost : Bool) {v : Verdict} → Judged x a places known q lost v → v.near ≡ true
-          → left ≤ 6
-      left_free fault l t o {x} b a q lost {v} j n = go (eqb fault 0) refl t o
-        where
-          go : (d : Bool) → eqb fault 0 ≡ d → turn ≡ cond d (follows before.place (place l)) true
-              → over ≡ cond d (is_over (place l)) false → left ≤ 6
-          go true d t o =
-              let y = turn_is k.settings k.heard k.leads l t in
-              let z = free_near k.settings k.heard (place l) k.leads.accepted in
-              let hs = reports k.settings k.heard in
-              let w : left ≡ length (fallen_when (is_over (place l)) (rest_at hs (place l)).near) =
-              left_is ∙ rw (o, y) refl in
-              omega (arith, w, z)
-          go false d t o =
-              let w : v.near ≡ false =
-              ap (λ (v : Verdict). v.near) (judged_kept x a q lost j)
-              ∙ rw (b.refused (eqb-false fault 0 d)) (none_near (is_due a q) lost) in
-              absurd_bool (sym w ∙ n)
+  module _ (over : Bool) {left : Nears} (f : Fallen over near.places near.count left.count left.places) where
+    left_is : left.count ≡ length (fallen_when over ns)
+    left_is =
+        (f (places_of ns) places_known).0
+        ∙ rw count_known (ap (λ (m : List Near). length (fallen_when over m)) (places_take ns))
+
+    pub left_few : left.count ≤ 7
+    left_few = omega (arith, left_is, fewer_left over ns, count_few k turn e, count_known)
+
+    pub left_free : (d : Result (Unit {0}) Fault) (l : Lent)
+        → turn ≡ cond (is_ok d) (follows before.place (place l)) true
+        → over ≡ cond (is_ok d) (is_over (place l)) false → {x : Brought} → Brings (refusal d) before.settings l x
+        → (a : Open) (q : Place) (lost : Bool) {v : Verdict} → Judged x a near.places near.count q lost v
+        → v.near ≡ true → left.count ≤ 6
+    left_free (Ok z) l t o {x} b a q lost {v} j n =
+        let y = turn_is k.settings k.heard k.leads l t in
+        let hs = reports k.settings k.heard in
+        let w : left.count ≡ length (fallen_when (is_over (place l)) (rest_at hs (place l)).near) =
+        left_is ∙ rw (o, y) refl in
+        omega (arith, w, free_near k.settings k.heard (place l) k.leads.accepted)
+    left_free (Err g) l t o {x} b a q lost {v} j n =
+        let w : v.near ≡ false =
+        ap (λ (v : Verdict). v.near) (judged_kept x a q lost j)
+        ∙ rw (b.refused (number_some g)) (none_near (is_due a q) lost) in
+        absurd_bool (sym w ∙ n)
 
 -- ---- the reply
 
--- What the code finds on the way to its reply to a report that is refused for a fault, or accepted where that is 0; and
--- the lent buffer, before and after.
-pub record Works (before : Receiver) (fault : ℕ) (l : Lent) (r : Reply) (old new : List ℕ) : Type 0 where
-  pub turn : Bool
-  pub tick : Place
-  pub lost : Bool
-  pub run : Open
-  pub known : ℕ
-  pub places : List ℕ
-  pub bits : ℕ
-  pub store : List ℕ
-  pub x : Brought
-  pub v : Verdict
-  pub told : Answer
-  pub over : Bool
-  pub left : ℕ
-  pub fallen : List ℕ
-  pub loss : Lost
-  pub turn_is : turn ≡ cond (eqb fault 0) (follows before.place (place l)) true
-  pub tick_is : tick ≡ cond (eqb fault 0) (place l) no_place
-  pub lost_is : lost ≡ broken_off turn before.assembly.run
-  pub run_is : run ≡ older_run turn tick before.assembly.run
-  pub known_is : known ≡ cond turn before.near.count 0
-  pub places_is : places ≡ cond turn before.near.places (replicate 21 0)
-  pub bits_is : bits ≡ cond turn before.assembly.bits 0
-  pub store_is : store ≡ cond turn before.assembly.store (store_of [])
-  pub brings : Brings fault before.settings l x
-  pub judges : Judged x run places known tick lost v
-  pub answer_is : r.answer ≡ with_loss told loss
-  pub loss_is : let g = before.assembly.run.fields in
-      loss ≡ lost_of v.dropped g.source.ssi g.message before.assembly.bits
-  pub tells : Told v x (brought_bits x l.blocks) run.fields bits store told old new
-  pub settings_after : r.receiver.settings ≡ before.settings
-  pub place_after : r.receiver.place ≡ cond (eqb fault 0) (place l) before.place
-  pub over_is : over ≡ cond (eqb fault 0) (is_over (place l)) false
-  pub falls : Fallen over places known left fallen
-  pub keeps : Kept v.near over x fallen left r.receiver.near.count r.receiver.near.places
-  pub run_after : let o = opening x.fields x.raw x.more l.frame x.countdown in
-      r.receiver.assembly.run ≡ run_after v.act o run
-  pub bits_after : Counted v.act bits x.bits r.receiver.assembly.bits
-  pub store_after : Stored v.act bits (brought_bits x l.blocks) store r.receiver.assembly.store
+-- What the code finds on the way to its reply to a report that is accepted, or refused for a fault; and the lent
+-- buffer, before and after.
+pub record Works (before : Receiver) (d : Result (Unit {0}) Fault) (l : Lent) (r : Reply) (old new : List ℕ) : Type 0
+  where
+    pub turn : Bool
+    pub tick : Place
+    pub lost : Bool
+    pub run : Open
+    pub near : Nears
+    pub bits : ℕ
+    pub store : List ℕ
+    pub x : Brought
+    pub v : Verdict
+    pub told : Answer
+    pub over : Bool
+    pub left : Nears
+    pub loss : Lost
+    pub turn_is : turn ≡ cond (is_ok d) (follows before.place (place l)) true
+    pub tick_is : tick ≡ cond (is_ok d) (place l) no_place
+    pub lost_is : lost ≡ broken_off turn before.assembly.run
+    pub run_is : run ≡ older_run turn tick before.assembly.run
+    pub near_is : near ≡ cond (not turn) (nears_of []) before.near
+    pub bits_is : bits ≡ cond turn before.assembly.bits 0
+    pub store_is : store ≡ cond (not turn) (store_of []) before.assembly.store
+    pub brings : Brings (refusal d) before.settings l x
+    pub judges : Judged x run near.places near.count tick lost v
+    pub answer_is : r.answer ≡ with_loss told loss
+    pub loss_is : let g = before.assembly.run.fields in
+        loss ≡ lost_of v.dropped g.source.ssi g.message before.assembly.bits
+    pub tells : Told v x (brought_bits x l.blocks) run.fields bits store told old new
+    pub settings_after : r.receiver.settings ≡ before.settings
+    pub place_after : r.receiver.place ≡ cond (is_ok d) (place l) before.place
+    pub over_is : over ≡ cond (is_ok d) (is_over (place l)) false
+    pub falls : Fallen over near.places near.count left.count left.places
+    pub keeps : Kept v.near over x left.places left.count r.receiver.near.count r.receiver.near.places
+    pub run_after : let o = opening x.fields x.raw x.more l.frame x.countdown in
+        r.receiver.assembly.run ≡ run_after v.act o run
+    pub bits_after : Counted v.act bits x.bits r.receiver.assembly.bits
+    pub store_after : Stored v.act bits (brought_bits x l.blocks) store r.receiver.assembly.store
 
 abbrev mark_of : Bool → ℕ
 mark_of b = cond b 1 0
@@ -336,7 +298,7 @@ answers s ls l e b =
     }
 
 module _ (s : Settings) (ls : Line Event) {before : Receiver} (k : Leads s ls before) (l : Lent) {r : Reply}
-    {old new : List ℕ} (w : Works before 0 l r old new) where
+    {old new : List ℕ} (w : Works before (Ok tt) l r old new) where
   abbrev history : History
   history = reports s ls
 
@@ -357,11 +319,14 @@ module _ (s : Settings) (ls : Line Event) {before : Receiver} (k : Leads s ls be
   run_left : w.run ≡ rest.assembly.run
   run_left = w.run_is ∙ rw w.tick_is (run_is s ls k l w.turn_is)
 
-  known_left : w.known ≡ length rest.near
-  known_left = w.known_is ∙ count_is s ls k l w.turn_is
+  near_left : w.near ≡ nears_of rest.near
+  near_left = w.near_is ∙ near_is s ls k l w.turn_is
 
-  places_are_left : w.places ≡ flat (places_of rest.near)
-  places_are_left = w.places_is ∙ places_is s ls k l w.turn_is
+  known_left : w.near.count ≡ length rest.near
+  known_left = ap (λ (n : Nears). n.count) near_left
+
+  places_are_left : w.near.places ≡ flat (places_of rest.near)
+  places_are_left = ap (λ (n : Nears). n.places) near_left
 
   bits_left_is : w.bits ≡ length rest.assembly.joined
   bits_left_is = w.bits_is ∙ bits_is s ls k l w.turn_is
@@ -448,7 +413,7 @@ module _ (s : Settings) (ls : Line Event) {before : Receiver} (k : Leads s ls be
 -- ---- what the calls return
 
 heard_all : {before : Receiver} (k : Reached before) (l : Lent) (old : List ℕ) → refused_with l old ≡ 0 → {r : Reply}
-    {new : List ℕ} → Works before 0 l r old new → Reached r.receiver × Hears before l r old new
+    {new : List ℕ} → Works before (Ok tt) l r old new → Reached r.receiver × Hears before l r old new
 heard_all k l old z w = (
   record {
     settings = k.settings;
@@ -473,22 +438,16 @@ not_heard k l old {f} e n q o = (
 )
 
 -- a refused report leaves all as it was
-module _ {before : Receiver} (k : Reached before) (l : Lent) {f : ℕ} (d : eqb f 0 ≡ false) {r : Reply}
-    {old new : List ℕ} (w : Works before f l r old new) where
+module _ {before : Receiver} (k : Reached before) (l : Lent) (f : Fault) {r : Reply} {old new : List ℕ}
+    (w : Works before (Err f) l r old new) where
   abbrev joined : List Bool
   joined = (after (reports k.settings k.heard)).assembly.joined
 
-  turn_on : w.turn ≡ true
-  turn_on = w.turn_is ∙ rw d refl
-
-  no_tick : w.tick ≡ no_place
-  no_tick = w.tick_is ∙ rw d refl
-
   run_on : w.run ≡ before.assembly.run
-  run_on = w.run_is ∙ rw (turn_on, no_tick) refl
+  run_on = w.run_is ∙ rw (w.turn_is, w.tick_is) refl
 
-  nothing_brought : w.x ≡ headless Nothing f 0 0
-  nothing_brought = w.brings.refused (eqb-false f 0 d)
+  nothing_brought : w.x ≡ headless Nothing (number_of f) 0 0
+  nothing_brought = w.brings.refused (number_some f)
 
   abbrev were : List Near
   were = (after (reports k.settings k.heard)).near
@@ -496,14 +455,14 @@ module _ {before : Receiver} (k : Reached before) (l : Lent) {f : ℕ} (d : eqb 
   near_was : before.near ≡ nears_of were
   near_was = ap (λ (z : Receiver). z.near) k.leads.there
 
-  known_on : w.known ≡ length were
-  known_on = w.known_is ∙ rw turn_on (ap (λ (n : Nears). n.count) near_was)
+  near_on : w.near ≡ nears_of were
+  near_on = w.near_is ∙ rw w.turn_is near_was
 
-  places_on : w.places ≡ flat (places_of were)
-  places_on = w.places_is ∙ rw turn_on (ap (λ (n : Nears). n.places) near_was)
+  known_on : w.near.count ≡ length were
+  known_on = ap (λ (n : Nears). n.count) near_on
 
-  not_over : w.over ≡ false
-  not_over = w.over_is ∙ rw d refl
+  places_on : w.near.places ≡ flat (places_of were)
+  places_on = ap (λ (n : Nears). n.places) near_on
 
   never_due : (a : Open) → is_due a no_place ≡ false
   never_due a = rw (and_false (eqb 0 (due a.frame a.countdown a.kept).frame), and_false (is_held a)) refl
@@ -511,7 +470,7 @@ module _ {before : Receiver} (k : Reached before) (l : Lent) {f : ℕ} (d : eqb 
   idle : w.v ≡ passed false
   idle =
       judged_list were known_on places_on w.x w.run w.tick w.lost w.judges
-      ∙ rw (nothing_brought, no_tick, never_due w.run, w.lost_is, turn_on) refl
+      ∙ rw (nothing_brought, w.tick_is, never_due w.run, w.lost_is, w.turn_is) refl
 
   bits_were : before.assembly.bits ≡ length joined
   bits_were = ap (λ (z : Receiver). z.assembly.bits) k.leads.there
@@ -520,20 +479,19 @@ module _ {before : Receiver} (k : Reached before) (l : Lent) {f : ℕ} (d : eqb 
   store_was = ap (λ (z : Receiver). z.assembly.store) k.leads.there
 
   bits_on : w.bits ≡ length joined
-  bits_on = w.bits_is ∙ rw turn_on bits_were
+  bits_on = w.bits_is ∙ rw w.turn_is bits_were
 
   store_on : w.store ≡ store_of joined
-  store_on = w.store_is ∙ rw turn_on store_was
+  store_on = w.store_is ∙ rw w.turn_is store_was
 
   kept_all : r.receiver ≡ before
   kept_all =
-      let e₁ : r.receiver.place ≡ before.place = w.place_after ∙ rw d refl in
       let n : w.v.near ≡ true → length (fallen_when w.over were) ≤ 6 =
       λ z. absurd_bool (sym (ap (λ (v : Verdict). v.near) idle) ∙ z) in
       let e₂ : r.receiver.near ≡ before.near =
       nears_after w.over w.v.near w.x were known_on places_on
       (few_near k.settings k.heard k.leads.accepted) n w.falls w.keeps
-      ∙ rw (not_over, idle) (sym near_was) in
+      ∙ rw (w.over_is, idle) (sym near_was) in
       let e₃ : r.receiver.assembly.run ≡ before.assembly.run = w.run_after ∙ rw idle run_on in
       let c : r.receiver.assembly.bits ≡ length (joined_after w.v.act [] joined) =
       w.bits_after joined [] bits_on (ap (λ (y : Brought). y.bits) nothing_brought) in
@@ -542,12 +500,12 @@ module _ {before : Receiver} (k : Reached before) (l : Lent) {f : ℕ} (d : eqb 
       w.store_after joined store_on bits_on ∙ rw idle (sym store_was) in
       λ i. record {
         settings = w.settings_after i;
-        place = e₁ i;
+        place = w.place_after i;
         near = e₂ i;
         assembly = record { run = e₃ i; bits = e₄ i; store = e₅ i };
       }
 
-  told_fault : Tells quiet false f w.told old new
+  told_fault : Tells quiet false (number_of f) w.told old new
   told_fault =
       let T : Verdict → Brought → Type 0 =
       λ v y. Tells (outcome_of v.outcome y.fields (brought_bits w.x l.blocks) w.run.fields
@@ -558,25 +516,19 @@ module _ {before : Receiver} (k : Reached before) (l : Lent) {f : ℕ} (d : eqb 
   no_loss_told : w.loss ≡ no_loss
   no_loss_told = w.loss_is ∙ rw idle refl
 
-  left_alone : f ≡ refused_with l old → Reached r.receiver × Hears before l r old new
+  left_alone : number_of f ≡ refused_with l old → Reached r.receiver × Hears before l r old new
   left_alone e =
-      not_heard k l old e (eqb-false f 0 d)
+      not_heard k l old e (number_some f)
       (ap₂ (λ (x : Receiver) (y : Answer). record { receiver = x; answer = y }) kept_all
       (w.answer_is ∙ ap₂ with_loss told_fault.answer no_loss_told))
       (told_fault.buffer ∙ handed_none old)
 
-replied_when : {before : Receiver} (k : Reached before) (l : Lent) (old : List ℕ) (f : ℕ) (d : Bool) → eqb f 0 ≡ d
-    → f ≡ refused_with l old → {r : Reply} {new : List ℕ} → Works before f l r old new
-    → Reached r.receiver × Hears before l r old new
-replied_when {before} k l old f true d e {r} {new} w =
-    let z = eqb-true f 0 d in
-    heard_all k l old (sym e ∙ z) (subst (λ (n : ℕ). Works before n l r old new) z w)
-replied_when k l old f false d e w = left_alone k l d w e
-
 -- what the code works out is what `hear` promises
-pub replied : {before : Receiver} (k : Reached before) (l : Lent) (old : List ℕ) (f : ℕ) → f ≡ refused_with l old
-    → {r : Reply} {new : List ℕ} → Works before f l r old new → Reached r.receiver × Hears before l r old new
-replied k l old f e w = replied_when k l old f (eqb f 0) refl e w
+pub replied : {before : Receiver} (k : Reached before) (l : Lent) (old : List ℕ) (d : Result (Unit {0}) Fault)
+    → refusal d ≡ refused_with l old → {r : Reply} {new : List ℕ} → Works before d l r old new
+    → Reached r.receiver × Hears before l r old new
+replied k l old (Ok tt) e w = heard_all k l old (sym e) w
+replied k l old (Err f) e w = left_alone k l f w e
 
 -- a fresh receiver
 pub fresh_leads : (individual group mni : ℕ) → settings_fit individual group mni ≡ true

@@ -3,3 +3,4 @@ pub mod TellLaws
 pub mod HearLaws
 pub mod ReplyLaws
 pub mod AnswerLaws
+mod FaultLaws

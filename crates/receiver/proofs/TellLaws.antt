@@ -1,8 +1,8 @@
 -- The store and the lent buffer, by an act and an outcome. Assumes nothing.
-use mathlib.Core.Path.{◌≡◌, refl, sym, ap, ap₂, ◌∙◌}
+use mathlib.Core.Path.{◌≡◌, refl, sym, ap, ◌∙◌}
 use mathlib.Core.Bool.{Bool, true, false, cond}
 use mathlib.Core.List.{List, [], ◌++◌}
-use Prim.Native.Nat.{ℕ, zero, suc, ◌+◌, ◌≤◌}
+use Prim.Native.Nat.{ℕ, ◌+◌, ◌≤◌}
 use native.Mathlib.Omega.{arith}
 use lib.ListN.{length, drop, length-append, length-drop}
 use lib.Seq.{length-take-le}
@@ -13,13 +13,13 @@ use Rattle.store.proofs.Stores.{store_join}
 use Rattle.store.proofs.Messages.{handed_first}
 use Rattle.blocks.specs.declared.header.Fields.{Fields}
 use Rattle.history.specs.Slots.{no_loss}
-use Rattle.history.specs.Step.{Outcome, message_of, clears, joins, joined_after, outcome_of}
-use Rattle.history.specs.declared.Lost.{Lost}
+use Rattle.history.specs.Step.{Outcome, message_of, clears, joins, joined_after, outcome_of, outcome_number}
+use Rattle.history.specs.declared.Outcome as code
+use Rattle.history.specs.declared.Outcome.TheVariants.{Quiet, Single, Joined, Opened, Kept, Copied}
 use Rattle.history.specs.declared.Act.{Act}
 use Rattle.history.specs.declared.Act.TheVariants.{Stays, Ends, Opens, Takes}
 use Rattle.reports.specs.declared.read.Brought.{Brought}
 use Rattle.receiver.specs.View.{answer_of, plain_answer, brought_bits, Tells}
-use Rattle.receiver.specs.declared.answer.Answer.{Answer}
 
 -- so many bits are brought
 pub length_brought : (x : Brought) (blocks : List ℕ) → Inside (length blocks) x.from (x.from + x.bits)
@@ -68,13 +68,6 @@ module _ (act : Act) (j b : List Bool) {at left : ℕ} (s : left ≡ cond (clear
   pub left_is : left ≡ length (left_of act j)
   left_is = s ∙ ap (λ (n : ℕ). cond (clears act) 0 n) e ∙ count_left act j
 
-  pub none_joined : joins act ≡ false → left ≡ length (joined_after act b j)
-  none_joined d = left_is ∙ ap length (sym (joined_is act b j d))
-
-  pub some_joined : {n : ℕ} → n ≡ length b → joins act ≡ true → left + n ≡ length (joined_after act b j)
-  some_joined f d =
-      ap₂ ◌+◌ left_is f ∙ sym (length-append (left_of act j) b) ∙ ap length (sym (joined_is act b j d))
-
 -- the bits of a store, and of a block after them
 pub join_is : {old new : List ℕ} {at : ℕ} (j b : List Bool) → old ≡ store_of j → at ≡ length j → at + length b ≤ 4096
     → new ≡ joined_to old at b
@@ -94,17 +87,16 @@ hand_alone b old n h e = e ∙ rw (n, store_join [] b (omega (arith, n))) (hande
 
 -- ---- none of the two that hand over
 
-pub plain_when : (n : ℕ) → (n ≡ 1 → ⊥) → (n ≡ 2 → ⊥) → n ≤ 5
+pub plain_when : (o : code.Outcome) → (o ≡ Single → ⊥) → (o ≡ Joined → ⊥)
     → (g : Fields) (b : List Bool) (joining : Fields) (m : List Bool) (dropped fault : ℕ)
-    → (plain_answer n dropped fault ≡ answer_of (outcome_of n g b joining m) dropped fault no_loss)
-    × (message_of (outcome_of n g b joining m) ≡ [])
-plain_when zero h k l g b joining m dropped fault = (refl, refl)
-plain_when (suc zero) h k l g b joining m dropped fault = absurd (h refl)
-plain_when (suc (suc zero)) h k l g b joining m dropped fault = absurd (k refl)
-plain_when (suc (suc (suc zero))) h k l g b joining m dropped fault = (refl, refl)
-plain_when (suc (suc (suc (suc zero)))) h k l g b joining m dropped fault = (refl, refl)
-plain_when (suc (suc (suc (suc (suc zero))))) h k l g b joining m dropped fault = (refl, refl)
-plain_when (suc (suc (suc (suc (suc (suc n)))))) h k l g b joining m dropped fault = absurd (omega arith)
+    → (plain_answer (outcome_number o) dropped fault ≡ answer_of (outcome_of o g b joining m) dropped fault no_loss)
+    × (message_of (outcome_of o g b joining m) ≡ [])
+plain_when Quiet h k g b joining m dropped fault = (refl, refl)
+plain_when Single h k g b joining m dropped fault = absurd (h refl)
+plain_when Joined h k g b joining m dropped fault = absurd (k refl)
+plain_when Opened h k g b joining m dropped fault = (refl, refl)
+plain_when Kept h k g b joining m dropped fault = (refl, refl)
+plain_when Copied h k g b joining m dropped fault = (refl, refl)
 
 -- ---- what is told, by the outcome
 
@@ -113,39 +105,44 @@ module _ (x : Brought) (blocks : List ℕ) (i : Inside (length blocks) x.from (x
   abbrev b : List Bool
   b = brought_bits x blocks
 
-  abbrev told : ℕ → Outcome
-  told n = outcome_of n x.fields b joining (j ++ b)
+  abbrev told : code.Outcome → Outcome
+  told o = outcome_of o x.fields b joining (j ++ b)
 
-  module _ {n d : ℕ} (dropped : Bool) (mark : d ≡ cond dropped 1 0) (old : List ℕ) {new : List ℕ} where
-    pub single_tells : n ≡ 1 → x.bits ≤ 4096 → new ≡ first_over x.bits (joined_to (store_of []) 0 b) old
-        → {y : Lost} → y ≡ no_loss → Tells (told n) dropped x.fault
-        (record { outcome = 1; dropped = d; fault = x.fault; bits = x.bits; fields = x.fields; lost = y }) old new
-    single_tells e h w z =
-        let l = length_brought x blocks i in
-        rw e
+  module _ (dropped : Bool) (old : List ℕ) {new : List ℕ} where
+    pub single_tells : x.bits ≤ 4096 → new ≡ first_over x.bits (joined_to (store_of []) 0 b) old
+        → Tells (told Single) dropped x.fault
         (record {
-          answer = rw (mark, l, z) refl;
-          buffer = hand_alone b old (sym l) h w;
+          outcome = 1;
+          dropped = cond dropped 1 0;
+          fault = x.fault;
+          bits = x.bits;
+          fields = x.fields;
+          lost = no_loss;
         })
+        old new
+    single_tells h w =
+        let l = length_brought x blocks i in
+        record { answer = rw l refl; buffer = hand_alone b old (sym l) h w }
 
-    pub joined_tells : n ≡ 2 → {store : List ℕ} {at : ℕ} → store ≡ store_of j → at ≡ length j → at + x.bits ≤ 4096
-        → new ≡ first_over (at + x.bits) (joined_to store at b) old → {y : Lost} → y ≡ no_loss
-        → Tells (told n) dropped x.fault
-        (record { outcome = 2; dropped = d; fault = x.fault; bits = at + x.bits; fields = joining; lost = y }) old new
-    joined_tells e {store} {at} s a h w z =
+    pub joined_tells : {store : List ℕ} {at : ℕ} → store ≡ store_of j → at ≡ length j → at + x.bits ≤ 4096
+        → new ≡ first_over (at + x.bits) (joined_to store at b) old
+        → Tells (told Joined) dropped x.fault
+        (record {
+          outcome = 2;
+          dropped = cond dropped 1 0;
+          fault = x.fault;
+          bits = at + x.bits;
+          fields = joining;
+          lost = no_loss;
+        })
+        old new
+    joined_tells {store} {at} s a h w =
         let l = length_brought x blocks i in
         let k : at + x.bits ≡ length (j ++ b) = omega (arith, a, l, length-append j b) in
-        rw e
-        (record {
-          answer = rw (mark, k, z) refl;
-          buffer = hand_is j b old s a (sym l) h w;
-        })
+        record { answer = rw k refl; buffer = hand_is j b old s a (sym l) h w }
 
-    pub plain_tells : (n ≡ 1 → ⊥) → (n ≡ 2 → ⊥) → n ≤ 5 → {r : Answer} → r ≡ plain_answer n d x.fault → new ≡ old
-        → Tells (told n) dropped x.fault r old new
-    plain_tells h k l e w =
-        let p = plain_when n h k l x.fields b joining (j ++ b) d x.fault in
-        record {
-          answer = e ∙ p.0 ∙ ap (λ (m : ℕ). answer_of (told n) m x.fault no_loss) mark;
-          buffer = w ∙ rw p.1 (sym (handed_none old));
-        }
+    pub plain_tells : (o : code.Outcome) → (o ≡ Single → ⊥) → (o ≡ Joined → ⊥) → new ≡ old
+        → Tells (told o) dropped x.fault (plain_answer (outcome_number o) (cond dropped 1 0) x.fault) old new
+    plain_tells o h k w =
+        let p = plain_when o h k x.fields b joining (j ++ b) (cond dropped 1 0) x.fault in
+        record { answer = p.0; buffer = w ∙ rw p.1 (sym (handed_none old)) }

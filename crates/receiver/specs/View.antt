@@ -23,6 +23,7 @@ use Rattle.receiver.specs.declared.assembly.Assembly.{Assembly}
 use Rattle.receiver.specs.declared.Receiver.{Receiver}
 use Rattle.receiver.specs.declared.answer.Answer.{Answer}
 use Rattle.receiver.specs.declared.Fresh.{Fresh}
+use Rattle.receiver.specs.declared.Reply.{Reply}
 
 -- ---- The record.
 
@@ -87,6 +88,10 @@ with_loss a lost =
 abbrev pub plain_answer : ℕ → ℕ → ℕ → Answer
 plain_answer outcome dropped fault =
     record { outcome = outcome; dropped = dropped; fault = fault; bits = 0; fields = no_fields; lost = no_loss }
+
+-- The reply of a receiver that is changed where it stands: as it is then, and its answer.
+abbrev pub replied : Receiver → Answer → Reply
+replied r a = record { receiver = r; answer = a }
 
 -- ---- What the code does with the bits: `j` are those joined so far, `at` their number, and the store holds them.
 

@@ -5,11 +5,13 @@ ghost use Rattle.store.specs.Store.{store_of};
 ghost use Rattle.history.specs.Step.{clears};
 ghost use Rattle.receiver.specs.View.{empty_assembly, brought_bits, Counted, Stored};
 
+use crate::either;
 use history::{Act, Open};
 use reports::read::Brought;
 use reports::run::{clears, joins, no_run};
 
 // What is kept of the open run, the number of bits joined, and the store that holds them.
+// Kept: a number beside an array, as pierstrand.h shows them.
 #[repr(C)]
 #[derive(Clone, Copy)]
 pub struct Assembly {
@@ -19,6 +21,7 @@ pub struct Assembly {
 }
 
 impl Assembly {
+    // One that is not there.
     pub(crate) fn none() -> Assembly
         ensures { result ≡ empty_assembly }
     {
@@ -28,69 +31,40 @@ impl Assembly {
             store: [0; 512],
         }
     }
-
-    // What is left of its store when a report comes, in turn or not.
-    pub(crate) fn older_store(self, turn: bool) -> [u8; 512]
-        ensures { result ≡ cond turn self.store (store_of []) }
-    {
-        if turn {
-            return self.store;
-        }
-        store::nothing()
-    }
 }
 
-// And of a number: of its bits, or of the earlier headers.
-pub(crate) fn older_number(turn: bool, n: usize) -> usize
-    ensures { result ≡ cond turn n 0 }
+// Makes a store hold nothing where what it held is gone.
+pub(crate) fn clear(gone: bool, store: &mut [u8; 512])
+    ensures { store.new ≡ cond gone (store_of []) store.old }
 {
-    if turn {
-        return n;
+    if gone {
+        store::wipe(store);
     }
-    0
 }
 
-// What an act leaves of them, before the bits that the report brings are joined: their number, and the store.
+// What an act leaves of the number of the bits that are joined, before those that the report brings.
 fn start(act: Act, at: usize) -> usize
     ensures { result ≡ cond (clears act) 0 at }
 {
-    if clears(act) {
-        return 0;
-    }
-    at
+    either(clears(act), 0, at)
 }
 
-fn clear(act: Act, store: &mut [u8])
-    requires { length store.old ≡ 512 }
-    ensures { store.new ≡ cond (clears act) (store_of []) store.old }
-{
-    if !clears(act) {
-        return;
-    }
-    store::wipe(store);
-}
-
-// What becomes of them where `at` bits are joined and the report brings more.
+// What becomes of it where `at` bits are joined and the report brings more.
 pub(crate) fn bits_after(act: Act, at: usize, n: usize) -> usize
     requires { at + n ≤ 4096 }
     ensures { Counted act at n result }
 {
-    let left = start(act, at);
-    if !joins(act) {
-        return left;
-    }
-    left + n
+    start(act, at) + either(joins(act), n, 0)
 }
 
-pub(crate) fn store_after(act: Act, store: &mut [u8], at: usize, x: Brought, blocks: &[u8])
-    requires { (length store.old ≡ 512) × (at + x.bits ≤ 4096)
-        × Inside (length blocks.now) x.from (x.from + x.bits) }
+// And of the store.
+pub(crate) fn store_after(act: Act, store: &mut [u8; 512], at: usize, x: Brought, blocks: &[u8])
+    requires room { at + x.bits ≤ 4096 }
+    requires inside { Inside (length blocks.now) x.from (x.from + x.bits) }
     ensures { Stored act at (brought_bits x blocks.now) store.old store.new }
 {
-    clear(act, store);
-    if !joins(act) {
-        return;
+    clear(clears(act), store);
+    if joins(act) {
+        store::join(store, start(act, at), blocks, x.from, x.bits);
     }
-    let left = start(act, at);
-    store::join(store, left, blocks, x.from, x.bits);
 }

@@ -4,18 +4,19 @@
 pub mod answer;
 pub mod assembly;
 
-ghost use Rattle.std.specs.Prelude.{◌≡◌, true, false, cond, eqb, length};
+ghost use Rattle.std.specs.Prelude.{◌≡◌, true, false, cond, is_ok, length};
+ghost use Rattle.blocks.specs.Faults.{refusal};
 ghost use Rattle.history.specs.Step.{is_over};
 ghost use Rattle.reports.specs.Lent.{brought, lent};
 ghost use Rattle.reports.specs.Turns.{follows};
 ghost use Rattle.receiver.specs.Reached.{refused_with, Reached, Hears};
-ghost use Rattle.receiver.specs.View.{no_place, Brings, new_with, fresh_of};
+ghost use Rattle.receiver.specs.View.{replied, Brings, new_with, fresh_of};
 
 use crate::answer::{Answer, lost_of, told, with_loss};
-use crate::assembly::{Assembly, bits_after, older_number, store_after};
+use crate::assembly::{Assembly, bits_after, clear, store_after};
 use blocks::fault::Fault;
 use history::{Nears, Place, What};
-use reports::near::{fall, keep, no_nears, older_places};
+use reports::near::{fall, forget, keep, no_nears};
 use reports::place::follows;
 use reports::read::{Brought, headless, read};
 use reports::report::report_rules;
@@ -24,6 +25,8 @@ use reports::unit::Settings;
 use reports::verdict::judge;
 
 // The receiver. What is not there is zero.
+// Kept: that a receiver was reached stands in the clauses of `fresh` and `hear` (`Reached`), and in no type: C lends the
+// record, and these clauses are what README.md and the theorems say of it.
 #[repr(C)]
 #[derive(Clone, Copy)]
 pub struct Receiver {
@@ -41,6 +44,7 @@ pub struct Reply {
 }
 
 // A fresh receiver, or the fault of its settings.
+// Kept: a number beside a receiver, in place of a Result, as pierstrand.h shows them.
 #[repr(C)]
 #[derive(Clone, Copy)]
 pub struct Fresh {
@@ -48,55 +52,43 @@ pub struct Fresh {
     pub receiver: Receiver,
 }
 
-// Whether a report follows the last one; one that is refused breaks nothing.
-fn in_turn(fault: u8, last: Place, q: Place) -> bool
-    ensures { result ≡ cond (eqb fault 0) (follows last q) true }
+// One of two values. As a function, and no `if` where it is called: the reply has one way through (docs/DECISIONS.md,
+// 91).
+pub(crate) fn either<T: Copy>(first: bool, a: T, b: T) -> T
+    ensures { result ≡ cond first a b }
 {
-    if fault != 0 {
-        return true;
-    }
-    follows(last, q)
+    if first { a } else { b }
 }
 
-// The slot that has come; none where the report is refused.
-fn ticking(fault: u8, q: Place) -> Place
-    ensures { result ≡ cond (eqb fault 0) q no_place }
+// Whether a report follows the last one; one that is refused breaks nothing.
+fn in_turn(accepted: Result<(), Fault>, last: Place, q: Place) -> bool
+    ensures { result ≡ cond (is_ok accepted) (follows last q) true }
 {
-    if fault != 0 {
-        return Place { frame: 0, slot: 0 };
-    }
-    q
+    accepted.is_err() || follows(last, q)
 }
 
 // Whether its frame is over with it; one that is refused ends none.
-fn ending(fault: u8, q: Place) -> bool
-    ensures { result ≡ cond (eqb fault 0) (is_over q) false }
+fn ending(accepted: Result<(), Fault>, q: Place) -> bool
+    ensures { result ≡ cond (is_ok accepted) (is_over q) false }
 {
-    if fault != 0 {
-        return false;
-    }
-    q.slot != 1
-}
-
-// The last place after a report.
-fn standing(fault: u8, last: Place, q: Place) -> Place
-    ensures { result ≡ cond (eqb fault 0) q last }
-{
-    if fault != 0 {
-        return last;
-    }
-    q
+    accepted.is_ok() && q.slot != 1
 }
 
 // What a report brings: nothing, and its fault, where it is refused.
-fn heard(fault: u8, settings: Settings, q: Place, kind: u8, blocks: &[u8]) -> Brought
-    requires { fault ≡ 0 → brought kind (length blocks.now) ≡ true }
-    ensures { Brings fault settings (lent q.frame q.slot kind blocks.now) result }
+fn heard(
+    accepted: Result<(), Fault>,
+    settings: Settings,
+    q: Place,
+    kind: u8,
+    blocks: &[u8],
+) -> Brought
+    requires { refusal accepted ≡ 0 → brought kind (length blocks.now) ≡ true }
+    ensures { Brings (refusal accepted) settings (lent q.frame q.slot kind blocks.now) result }
 {
-    if fault != 0 {
-        return headless(What::Nothing, fault, 0, 0);
+    match accepted {
+        Ok(()) => read(settings, q, kind, blocks),
+        Err(fault) => headless(What::Nothing, fault.number(), 0, 0),
     }
-    read(settings, q, kind, blocks)
 }
 
 impl Receiver {
@@ -106,7 +98,7 @@ impl Receiver {
     {
         Receiver {
             settings,
-            place: Place { frame: 0, slot: 0 },
+            place: Place::default(),
             near: no_nears(),
             assembly: Assembly::none(),
         }
@@ -128,7 +120,7 @@ impl Receiver {
             };
         }
         Fresh {
-            fault: Fault::RANGE,
+            fault: Fault::Range.number(),
             receiver: Receiver::new(Settings {
                 individual: 0,
                 group: 0,
@@ -137,64 +129,87 @@ impl Receiver {
         }
     }
 
-    // The reply to a report that is refused for `fault`, or accepted where that is 0: it is read and judged, the answer
-    // is told, and then the record is put together in one place. To a refused one no time has gone by, and it brings
-    // nothing. What is lost is told of the assembly as it was before the report.
-    fn reply(self, fault: u8, q: Place, kind: u8, blocks: &[u8], message: &mut [u8]) -> Reply
-        requires { Reached self
-            × (fault ≡ refused_with (lent q.frame q.slot kind blocks.now) message.old) }
-        ensures { Reached result.receiver
-            × Hears self (lent q.frame q.slot kind blocks.now) result
+    // The reply to a report that is accepted, or refused for a fault: it is read and judged, and the answer is told. To a
+    // refused one no time has gone by, and it brings nothing. What is lost is told of the assembly as it was before the
+    // report.
+    fn reply(
+        &mut self,
+        accepted: Result<(), Fault>,
+        q: Place,
+        kind: u8,
+        blocks: &[u8],
+        message: &mut [u8],
+    ) -> Answer
+        requires reached { Reached self.old }
+        requires refused { refusal accepted
+            ≡ refused_with (lent q.frame q.slot kind blocks.now) message.old }
+        ensures { Reached self.new
+            × Hears self.old (lent q.frame q.slot kind blocks.now) (replied self.new result)
             message.old message.new }
     {
-        let settings = self.settings;
-        let last = self.place;
-        let turn = in_turn(fault, last, q);
-        let tick = ticking(fault, q);
+        let ok = accepted.is_ok();
+        let turn = in_turn(accepted, self.place, q);
+        let tick = either(ok, q, Place::default());
         let own = self.assembly.run;
         let lost = broken_off(turn, own);
         let run = older_run(turn, tick, own);
-        let before = self.near.places;
-        let mut places = older_places(turn, before);
-        let known = older_number(turn, self.near.count);
         let joined = self.assembly.bits;
-        let bits = older_number(turn, joined);
-        let mut store = self.assembly.older_store(turn);
-        let x = heard(fault, settings, q, kind, blocks);
-        let v = judge(x, run, &places, known, tick, lost);
-        let joining = run.fields;
-        let answer = told(v, x, joining, bits, &store, blocks, message);
-        let act = v.act;
-        store_after(act, &mut store, bits, x, blocks);
-        let over = ending(fault, q);
-        let left = fall(over, &mut places, known);
-        let count = keep(v.near, over, x, &mut places, left);
+        let bits = either(turn, joined, 0);
+        forget(!turn, &mut self.near);
+        clear(!turn, &mut self.assembly.store);
+        let x = heard(accepted, self.settings, q, kind, blocks);
+        let v = judge(x, run, &self.near, tick, lost);
+        let answer = told(
+            v,
+            x,
+            run.fields,
+            bits,
+            &self.assembly.store,
+            blocks,
+            message,
+        );
+        store_after(v.act, &mut self.assembly.store, bits, x, blocks);
+        let over = ending(accepted, q);
+        fall(over, &mut self.near);
+        keep(v.near, over, x, &mut self.near);
+        self.place = either(ok, q, self.place);
+        self.assembly.run = run_after(v.act, x, q.frame, run);
+        self.assembly.bits = bits_after(v.act, bits, x.bits);
         let loss = lost_of(v.dropped, own.fields.source.ssi, own.fields.message, joined);
-        Reply {
-            receiver: Receiver {
-                settings,
-                place: standing(fault, last, q),
-                near: Nears { count, places },
-                assembly: Assembly {
-                    run: run_after(act, x, q.frame, run),
-                    bits: bits_after(act, bits, x.bits),
-                    store,
-                },
-            },
-            answer: with_loss(answer, loss),
-        }
+        with_loss(answer, loss)
     }
 
-    // Hears a slot report: `kind` 1 lends no bytes and brings nothing, 2 lends SCH/S with SCH/H (24 bytes), 3 lends
-    // SCH/F (34 bytes). Refused in the order 15, 16, 1, 17 (the message's buffer is 512 bytes or more); then the
-    // receiver and the buffer are as before. Asks for a receiver that `fresh` or an earlier `hear` gave, and gives
-    // such a one.
-    pub fn hear(self, frame: u8, slot: u8, kind: u8, blocks: &[u8], message: &mut [u8]) -> Reply
+    // Hears a slot report where the receiver stands: `kind` 1 lends no bytes and brings nothing, 2 lends SCH/S with
+    // SCH/H (24 bytes), 3 lends SCH/F (34 bytes). Refused in the order 15, 16, 1, 17 (the message's buffer is 512 bytes
+    // or more); then the receiver and the buffer are as before. Asks for a receiver that `fresh` or an earlier report
+    // gave, and leaves such a one.
+    pub fn hear_in_place(
+        &mut self,
+        frame: u8,
+        slot: u8,
+        kind: u8,
+        blocks: &[u8],
+        message: &mut [u8],
+    ) -> Answer
+        requires { Reached self.old }
+        ensures { Reached self.new
+            × Hears self.old (lent frame slot kind blocks.now) (replied self.new result)
+            message.old message.new }
+    {
+        let accepted = report_rules(frame, slot, kind, blocks.len(), message.len());
+        self.reply(accepted, Place { frame, slot }, kind, blocks, message)
+    }
+
+    // The same by value: the receiver is given back, with the answer.
+    pub fn hear(mut self, frame: u8, slot: u8, kind: u8, blocks: &[u8], message: &mut [u8]) -> Reply
         requires { Reached self }
         ensures { Reached result.receiver
             × Hears self (lent frame slot kind blocks.now) result message.old message.new }
     {
-        let fault = report_rules(frame, slot, kind, blocks.len(), message.len());
-        self.reply(fault, Place { frame, slot }, kind, blocks, message)
+        let answer = self.hear_in_place(frame, slot, kind, blocks, message);
+        Reply {
+            receiver: self,
+            answer,
+        }
     }
 }

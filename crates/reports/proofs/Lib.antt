@@ -1,6 +1,5 @@
 pub mod Counting
 pub mod NearLaws
-pub mod Variants
 pub mod RuleLaws
 pub mod Readings
 pub mod FlagLaws

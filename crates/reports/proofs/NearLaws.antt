@@ -191,16 +191,6 @@ module _ (ps : List Near) (n : ℕ) (l : n ≤ length ps) where
       let e : n - length (take n ps) ≡ 0 = omega (arith, still_count) in
       ap (λ (k : ℕ). take n ps ++ (replicate k no_near ++ drop n ps)) e ∙ take-append-drop n ps
 
--- ---- One header more, or none.
-
-module _ (ps : List Near) (n : ℕ) {places : List ℕ} (e : places ≡ flat ps) where
-  pub none_kept : (ms : List Near) → ms ≡ [] → (n ≡ n + length ms) × (places ≡ flat (sets ps n ms))
-  none_kept ms z = rw z (omega arith, e)
-
-  pub one_kept : (ms : List Near) (m : Near) → ms ≡ m ∷ [] → {new : List ℕ} → Put places n m new
-      → (n + 1 ≡ n + length ms) × (new ≡ flat (sets ps n ms))
-  one_kept ms m z p = rw z (refl, p ps e)
-
 -- ---- A list in its places.
 
 places_length : (ns : List Near) → length ns ≤ 7 → length (places_of ns) ≡ 7
@@ -238,7 +228,8 @@ places_fallen over ns l =
     ∙ ap (λ (z : List Near). f ++ z)
     (replicate-append-replicate k (7 - length ns - 0) no_near ∙ zeros z)
 
-places_kept : (ns ms : List Near) → length ns + length ms ≤ 7 → sets (places_of ns) (length ns) ms ≡ places_of (ns ++ ms)
+places_kept : (ns ms : List Near) → length ns + length ms ≤ 7
+    → sets (places_of ns) (length ns) ms ≡ places_of (ns ++ ms)
 places_kept ns ms l =
     let n = places_length ns (omega arith) in
     let z : 7 - length ns - length ms ≡ 7 - length (ns ++ ms) = omega (arith, length-append ns ms) in

@@ -21,7 +21,17 @@ use Rattle.history.specs.Slots.{Header, Heard, nothing, fragmented, unfragmented
 use Rattle.history.specs.declared.What.{What}
 use Rattle.history.specs.declared.What.TheVariants.{Nothing, Fragmented, Unfragmented, Frag, End}
 use Rattle.history.proofs.Bounds.{Sized}
-use Rattle.reports.specs.Lent.{Lent, lent, for_unit, raw_of, unfaulted, brought, header_in_lent, header_heard, block_heard}
+use Rattle.reports.specs.Lent.{
+  Lent,
+  lent,
+  for_unit,
+  raw_of,
+  unfaulted,
+  brought,
+  header_in_lent,
+  header_heard,
+  block_heard,
+}
 use Rattle.reports.specs.Lent.{heard, fault_in}
 use Rattle.reports.specs.Reading.{brought_of, headless, Reads}
 use Rattle.reports.specs.declared.unit.Settings.{Settings}

@@ -14,7 +14,15 @@ use Rattle.blocks.specs.Faults.{first_of}
 use Rattle.blocks.specs.Sdu.{sdu_of, is_there, bits_of_message}
 use Rattle.blocks.specs.Sync.{sync_of, sync_checks}
 use Rattle.blocks.specs.declared.sync.Sync.{Sync}
-use Rattle.blocks.specs.Header.{fragmented_in, body_of, message_of_header, body_checks, place_rules, reported_fault, header_of}
+use Rattle.blocks.specs.Header.{
+  fragmented_in,
+  body_of,
+  message_of_header,
+  body_checks,
+  place_rules,
+  reported_fault,
+  header_of,
+}
 use Rattle.blocks.specs.Header.{answered, read_reported}
 use Rattle.blocks.specs.Continuation.{block_message, continuation_checks, continuation_of, read_continuation}
 use Rattle.blocks.specs.Continuation as block
@@ -41,7 +49,8 @@ first_bits fill room h i =
 -- so it stands in the block from the room's first bit on
 in_block : (fill from to : ℕ) (b : List Bool) → fill ≤ 1 → from ≤ to → to ≤ length b
     → is_there (sdu_of fill (slice from to b)) ≡ true
-    → (take (length (bits_of_message (sdu_of fill (slice from to b)))) (drop from b) ≡ bits_of_message (sdu_of fill (slice from to b)))
+    → (take (length (bits_of_message (sdu_of fill (slice from to b)))) (drop from b)
+    ≡ bits_of_message (sdu_of fill (slice from to b)))
     × (from + length (bits_of_message (sdu_of fill (slice from to b))) ≤ to)
 in_block fill from to b h o k i =
     let r = first_bits fill (slice from to b) h i in
@@ -65,7 +74,8 @@ pub record WellRead (h : List ℕ) (x : read.Header) : Type 0 where
   pub low : x.fragmented ≤ 1
   pub sized : x.bits ≡ length (bits_of_message (message_of_header (body_of (bits_of h)) (bits_of h)))
   pub room : x.first + x.bits ≤ 124
-  pub bits : take x.bits (drop x.first (bits_of h)) ≡ bits_of_message (message_of_header (body_of (bits_of h)) (bits_of h))
+  pub bits :
+      take x.bits (drop x.first (bits_of h)) ≡ bits_of_message (message_of_header (body_of (bits_of h)) (bits_of h))
   pub long : length h ≡ 16
 
 header_well : (y : Sync) (h : List ℕ) → length h ≡ 16 → BodyHolds (bits_of h) → WellRead h (header_of y (bits_of h))

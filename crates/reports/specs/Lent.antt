@@ -1,5 +1,28 @@
 -- A report as lent bytes: what is refused, whom a header is for, and what the report brings once its blocks are read.
-use Rattle.std.specs.Prelude.{◌≡◌, Bool, true, false, cond, ◌&&◌, ◌||◌, List, [], ◌∷◌, ◌⊎◌, ℕ, zero, suc, ◌+◌, ◌-◌, ◌*◌, ◌≤◌, eqb, leb, take, drop}
+use Rattle.std.specs.Prelude.{
+  ◌≡◌,
+  Bool,
+  true,
+  false,
+  cond,
+  ◌&&◌,
+  ◌||◌,
+  List,
+  [],
+  ◌∷◌,
+  ◌⊎◌,
+  ℕ,
+  zero,
+  suc,
+  ◌+◌,
+  ◌-◌,
+  ◌*◌,
+  ◌≤◌,
+  eqb,
+  leb,
+  take,
+  drop,
+}
 use Rattle.bits.specs.Bits.{bits_of, over}
 use Rattle.store.specs.Store.{halves}
 use Rattle.store.specs.declared.Raw.{Raw}

@@ -1,5 +1,22 @@
 -- Earlier headers in their places, as the code holds and changes them.
-use Rattle.std.specs.Prelude.{◌≡◌, Bool, cond, List, [], ◌∷◌, ◌++◌, ℕ, ◌+◌, ◌-◌, length, take, drop, set, get_or, replicate}
+use Rattle.std.specs.Prelude.{
+  ◌≡◌,
+  Bool,
+  cond,
+  List,
+  [],
+  ◌∷◌,
+  ◌++◌,
+  ℕ,
+  ◌+◌,
+  ◌-◌,
+  length,
+  take,
+  drop,
+  set,
+  get_or,
+  replicate,
+}
 use Rattle.std.proofs.lemmas.List.Edits.{sets}
 use Rattle.store.specs.declared.Raw.{Raw}
 use Rattle.history.specs.Step.{no_near, copied, judge, near_of, fallen}

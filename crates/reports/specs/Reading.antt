@@ -1,20 +1,17 @@
 -- What a report brings, as the code holds it: every part, and where its message bits stand in the lent bytes.
-use Rattle.std.specs.Prelude.{◌≡◌, false, ℕ, ◌+◌, ◌≤◌, length, take, drop}
+use Rattle.std.specs.Prelude.{◌≡◌, false, cond, eqb, Option, Some, None, ℕ, ◌+◌, ◌≤◌, length, take, drop}
 use Rattle.bits.specs.Bits.{bits_of, Inside}
 use Rattle.history.specs.Slots.{no_fields, no_raw, Heard, what_in, header_in, more_in, countdown_in, bits_in}
 use Rattle.history.specs.declared.What.{What}
-use Rattle.history.specs.declared.What.TheVariants.{Nothing, Fragmented, Unfragmented, Frag, End}
 use Rattle.reports.specs.Lent.{Lent, heard, fault_in}
+use Rattle.reports.specs.declared.report.Kind.{Kind}
+use Rattle.reports.specs.declared.report.Kind.TheVariants.{Silence, Header, Block}
 use Rattle.reports.specs.declared.unit.Settings.{Settings}
 use Rattle.reports.specs.declared.read.Brought.{Brought}
 
--- The number of what it brings, in the order of `What`.
-abbrev pub number_of : What → ℕ
-number_of Nothing = 0
-number_of Fragmented = 1
-number_of Unfragmented = 2
-number_of Frag = 3
-number_of End = 4
+-- The kind of a number.
+abbrev pub kind_of : ℕ → Option Kind
+kind_of n = cond (eqb n 1) (Some Silence) (cond (eqb n 2) (Some Header) (cond (eqb n 3) (Some Block) None))
 
 abbrev pub brought_of : Heard → ℕ → ℕ → Brought
 brought_of x fault from =

@@ -1,21 +1,13 @@
 // The earlier headers for this unit that copies can still come of: the first `count` of seven places of three numbers.
-ghost use Rattle.std.specs.Prelude.{◌≡◌, true, cond, [], ◌≤◌, ◌<◌, length, replicate};
-ghost use Rattle.history.specs.Step.{no_near, fits};
+// Kept: each function asks for a count of at most 7, and no field of `Nears` says it, since `nears_of`, on which
+// theorems of receivers stand, gives such a record of any list.
+ghost use Rattle.std.specs.Prelude.{◌≡◌, true, cond, [], ◌≤◌, ◌<◌, length};
+ghost use Rattle.history.specs.Step.{fits};
 ghost use Rattle.reports.specs.Nears.{nears_of, Placed, Put, Copied, Fallen, Kept};
 
 use crate::read::Brought;
 use history::{Near, Nears};
 use store::Raw;
-
-// A place with none.
-fn no_near() -> Near
-    ensures { result ≡ no_near }
-{
-    Near {
-        raw: Raw { high: 0, low: 0 },
-        countdown: 0,
-    }
-}
 
 // None of them.
 pub fn no_nears() -> Nears
@@ -27,19 +19,18 @@ pub fn no_nears() -> Nears
     }
 }
 
-// What is left of the places when a report comes, in turn or not.
-pub fn older_places(turn: bool, places: [u64; 21]) -> [u64; 21]
-    ensures { result ≡ cond turn places (replicate 21 0) }
+// Leaves none of them where they are gone.
+pub fn forget(gone: bool, near: &mut Nears)
+    ensures { near.new ≡ cond gone (nears_of []) near.old }
 {
-    if turn {
-        return places;
+    if gone {
+        *near = no_nears();
     }
-    [0; 21]
 }
 
 // Place `i`, read and written.
-fn place(places: &[u64], i: usize) -> Near
-    requires { (i < 7) × (length places.now ≡ 21) }
+fn place(places: &[u64; 21], i: usize) -> Near
+    requires { i < 7 }
     ensures { Placed places.now i result }
 {
     Near {
@@ -51,8 +42,8 @@ fn place(places: &[u64], i: usize) -> Near
     }
 }
 
-fn put(places: &mut [u64], i: usize, n: Near)
-    requires { (i < 7) × (length places.old ≡ 21) }
+fn put(places: &mut [u64; 21], i: usize, n: Near)
+    requires { i < 7 }
     ensures { Put places.old i n places.new }
 {
     places[3 * i] = n.raw.high;
@@ -64,76 +55,68 @@ fn put(places: &mut [u64], i: usize, n: Near)
 fn fits(n: Near, raw: Raw, countdown: u8) -> bool
     ensures { result ≡ fits n raw countdown }
 {
-    if n.countdown != countdown as u64 {
-        return false;
-    }
-    let own = n.raw;
-    store::same(own, raw)
+    n.countdown == u64::from(countdown) && store::same(n.raw, raw)
 }
 
 // Whether it is a copy of one of them.
-pub(crate) fn copied(places: &[u64], count: usize, raw: Raw, countdown: u8) -> bool
-    requires { (count ≤ 7) × (length places.now ≡ 21) }
-    ensures { Copied places.now count raw countdown result }
+pub(crate) fn copied(near: &Nears, raw: Raw, countdown: u8) -> bool
+    requires { near.now.count ≤ 7 }
+    ensures { Copied near.now.places near.now.count raw countdown result }
 {
-    let mut i = 0;
-    while i < count {
-        if fits(place(places, i), raw, countdown) {
+    for i in 0..near.count {
+        if fits(place(&near.places, i), raw, countdown) {
             return true;
         }
-        i += 1;
     }
     false
 }
 
-// Where the frame is over, their countdowns fall by one, and those that were 0 go out. Gives how many are left: they
-// stand first, in their order, and what has gone out is zero.
-pub fn fall(over: bool, places: &mut [u64], count: usize) -> usize
-    requires { (count ≤ 7) × (length places.old ≡ 21) }
-    ensures { Fallen over places.old count result places.new }
+// Where the frame is over, their countdowns fall by one, and those that were 0 go out. The others stand first, in their
+// order, and what has gone out is zero.
+pub fn fall(over: bool, near: &mut Nears)
+    requires { near.old.count ≤ 7 }
+    ensures { Fallen over near.old.places near.old.count near.new.count near.new.places }
 {
     if !over {
-        return count;
+        return;
     }
     let mut k = 0;
-    let mut i = 0;
-    while i < count {
-        let n = place(places, i);
-        put(places, i, no_near());
+    for i in 0..near.count {
+        let n = place(&near.places, i);
+        put(&mut near.places, i, Near::default());
         if n.countdown != 0 {
-            let raw = n.raw;
             put(
-                places,
+                &mut near.places,
                 k,
                 Near {
-                    raw,
+                    raw: n.raw,
                     countdown: n.countdown - 1,
                 },
             );
             k += 1;
         }
-        i += 1;
     }
-    k
+    near.count = k;
 }
 
 // Puts the header of a report after them, where it is one more that copies can come of: in the slot next in turn, which
-// is in a new frame where this one is over. Gives how many there are then.
-pub fn keep(near: bool, over: bool, x: Brought, places: &mut [u64], count: usize) -> usize
-    requires { (near ≡ true → count ≤ 6) × (count ≤ 7) × (length places.old ≡ 21) }
-    ensures { Kept near over x places.old count result places.new }
+// is in a new frame where this one is over.
+pub fn keep(more: bool, over: bool, x: Brought, near: &mut Nears)
+    requires room { more ≡ true → near.old.count ≤ 6 }
+    requires inside { near.old.count ≤ 7 }
+    ensures { Kept more over x near.old.places near.old.count near.new.count near.new.places }
 {
-    if !near {
-        return count;
+    if !more || (over && x.countdown == 0) {
+        return;
     }
-    let mut countdown = x.countdown as u64;
-    if over {
-        if countdown == 0 {
-            return count;
-        }
-        countdown -= 1;
-    }
-    let raw = x.raw;
-    put(places, count, Near { raw, countdown });
-    count + 1
+    let countdown = u64::from(if over { x.countdown - 1 } else { x.countdown });
+    put(
+        &mut near.places,
+        near.count,
+        Near {
+            raw: x.raw,
+            countdown,
+        },
+    );
+    near.count += 1;
 }

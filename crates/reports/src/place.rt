@@ -13,15 +13,9 @@ pub fn follows(last: Place, q: Place) -> bool
         return true;
     }
     if last.slot == 1 {
-        if q.frame == last.frame {
-            return q.slot == 3;
-        }
-        return false;
+        return q.frame == last.frame && q.slot == 3;
     }
-    if q.frame == last.frame % 18 + 1 {
-        return q.slot == 1;
-    }
-    false
+    q.frame == last.frame % 18 + 1 && q.slot == 1
 }
 
 // A countdown falls by one with each frame, at slot 1.
@@ -29,10 +23,8 @@ pub(crate) fn wane(q: Place, again: u8) -> u8
     ensures { result ≡ wane q again }
 {
     if q.slot == 1 {
-        if again == 0 {
-            return 0;
-        }
-        return again - 1;
+        again.saturating_sub(1)
+    } else {
+        again
     }
-    again
 }

@@ -6,7 +6,7 @@ ghost use Rattle.reports.specs.Reading.{headless, Reads};
 use crate::report::Kind;
 use crate::unit::Settings;
 use blocks::continuation::read_continuation;
-use blocks::header::{Address, Fields, no_fields, read_reported};
+use blocks::header::{Address, Fields, read_reported};
 use blocks::sizes::SchS;
 use history::{Place, What};
 use store::Raw;
@@ -14,6 +14,8 @@ use store::Raw;
 // A report once read: what it brings, and the fault of its blocks; of a header whether it is for this unit, its SCH/H
 // but for the countdown, its fields, one less than its slot count, its countdown; zero where there is none. Its
 // message bits are so many of the lent bytes' from bit `from` on.
+// Kept: one record, since a `match` on an enum that had the parts of each kind would copy them (docs/DECISIONS.md, 91);
+// and the fault is a number, 0 for none, as the blocks' structs for C give it.
 #[derive(Clone, Copy)]
 pub struct Brought {
     pub what: What,
@@ -27,7 +29,7 @@ pub struct Brought {
     pub bits: usize,
 }
 
-// The same fields, one by one: the bytes between them are not carried along (docs/DECISIONS.md, 94).
+// The same fields. Kept: one by one, for so the bytes between them are not carried along (docs/DECISIONS.md, 94).
 pub(crate) fn same_fields(g: Fields) -> Fields
     ensures { result ≡ g }
 {
@@ -55,8 +57,8 @@ pub fn headless(what: What, fault: u8, from: usize, bits: usize) -> Brought
         what,
         fault,
         meant: false,
-        raw: Raw { high: 0, low: 0 },
-        fields: no_fields(),
+        raw: Raw::default(),
+        fields: Fields::default(),
         more: 0,
         countdown: 0,
         from,
@@ -75,7 +77,6 @@ fn header(settings: Settings, q: Place, blocks: &[u8]) -> Brought
     if x.fault != 0 {
         return headless(What::Nothing, x.fault, 0, 0);
     }
-    let fields = x.fields;
     let what = if x.fragmented == 1 {
         What::Fragmented
     } else {
@@ -84,9 +85,9 @@ fn header(settings: Settings, q: Place, blocks: &[u8]) -> Brought
     Brought {
         what,
         fault: 0,
-        meant: settings.meant(fields),
+        meant: settings.meant(x.fields),
         raw: store::without_two(h, 12 + 4 * (x.fragmented as usize)),
-        fields: same_fields(fields),
+        fields: same_fields(x.fields),
         more: x.count - x.fragmented,
         countdown: x.countdown,
         from: SchS::LENT + x.first,
@@ -114,10 +115,11 @@ pub fn read(settings: Settings, q: Place, kind: u8, blocks: &[u8]) -> Brought
     requires { brought kind (length blocks.now) ≡ true }
     ensures { Reads settings (lent q.frame q.slot kind blocks.now) result }
 {
-    if kind == Kind::HEADER {
+    let kind = Kind::of(kind);
+    if kind == Some(Kind::Header) {
         return header(settings, q, blocks);
     }
-    if kind == Kind::BLOCK {
+    if kind == Some(Kind::Block) {
         return block(settings, q, blocks);
     }
     headless(What::Nothing, 0, 0, 0)

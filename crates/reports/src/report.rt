@@ -1,7 +1,8 @@
 // What a report is refused for.
 ghost use Rattle.std.specs.Prelude.{◌≡◌};
-ghost use Rattle.blocks.specs.Faults.{first_of};
+ghost use Rattle.blocks.specs.Faults.{first_of, refusal};
 ghost use Rattle.reports.specs.Lent.{heard_slot, brought, report_rules};
+ghost use Rattle.reports.specs.Reading.{kind_of};
 
 use blocks::fault::Fault;
 use blocks::sizes::{SchF, SchH, SchS};
@@ -10,64 +11,66 @@ use blocks::sizes::{SchF, SchH, SchS};
 const BUFFER: usize = 512;
 
 // What a report brings.
-#[derive(Clone, Copy)]
-pub struct Kind {}
-
-impl Kind {
+#[derive(Clone, Copy, PartialEq, Eq)]
+pub enum Kind {
     // Nothing: 0 bytes.
-    pub const SILENCE: u8 = 1;
+    Silence = 1,
 
     // SCH/S, then SCH/H: 24 bytes.
-    pub const HEADER: u8 = 2;
+    Header = 2,
 
     // SCH/F: 34 bytes.
-    pub const BLOCK: u8 = 3;
+    Block = 3,
+}
+
+impl Kind {
+    // The kind of this number, if there is one.
+    pub fn of(number: u8) -> Option<Kind>
+        ensures { result ≡ kind_of number }
+    {
+        match number {
+            1 => Some(Kind::Silence),
+            2 => Some(Kind::Header),
+            3 => Some(Kind::Block),
+            _ => None,
+        }
+    }
 }
 
 // Whether a report of this kind lends so many bytes.
 fn brings(kind: u8, lent: usize) -> bool
     ensures { result ≡ brought kind lent }
 {
-    if kind == Kind::SILENCE {
-        return lent == 0;
+    match Kind::of(kind) {
+        Some(Kind::Silence) => lent == 0,
+        Some(Kind::Header) => lent == SchS::BYTES + SchH::BYTES,
+        Some(Kind::Block) => lent == SchF::BYTES,
+        None => false,
     }
-    if kind == Kind::HEADER {
-        return lent == SchS::BYTES + SchH::BYTES;
-    }
-    if kind == Kind::BLOCK {
-        return lent == SchF::BYTES;
-    }
-    false
 }
 
 // Whether it is a slot that reports name.
 fn heard_slot(slot: u8) -> bool
     ensures { result ≡ heard_slot slot }
 {
-    if slot == 1 {
-        return true;
-    }
-    slot == 3
+    slot == 1 || slot == 3
 }
 
-// The first of the faults 15, 16, 1 and 17 of a report, 0 where it is accepted.
-pub fn report_rules(frame: u8, slot: u8, kind: u8, lent: usize, buffer: usize) -> u8
-    ensures { result ≡ first_of (report_rules frame slot kind lent buffer) }
+// The first of the faults 15, 16, 1 and 17 of a report.
+pub fn report_rules(frame: u8, slot: u8, kind: u8, lent: usize, buffer: usize) -> Result<(), Fault>
+    ensures { refusal result ≡ first_of (report_rules frame slot kind lent buffer) }
 {
-    if frame < 1 {
-        return Fault::REPORT_FRAME;
-    }
-    if 18 < frame {
-        return Fault::REPORT_FRAME;
+    if frame < 1 || 18 < frame {
+        return Err(Fault::ReportFrame);
     }
     if !heard_slot(slot) {
-        return Fault::REPORT_SLOT;
+        return Err(Fault::ReportSlot);
     }
     if !brings(kind, lent) {
-        return Fault::LENGTH;
+        return Err(Fault::Length);
     }
     if buffer < BUFFER {
-        return Fault::BUFFER;
+        return Err(Fault::Buffer);
     }
-    0
+    Ok(())
 }

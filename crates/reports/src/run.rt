@@ -5,7 +5,6 @@ ghost use Rattle.history.specs.Step.{run_after};
 
 use crate::place::wane;
 use crate::read::{Brought, same_fields};
-use blocks::header::no_fields;
 use history::{Act, Open, Place};
 use store::Raw;
 
@@ -13,16 +12,7 @@ use store::Raw;
 pub fn no_run() -> Open
     ensures { result ≡ no_run }
 {
-    Open {
-        fields: no_fields(),
-        raw: Raw { high: 0, low: 0 },
-        held: 0,
-        again: 0,
-        more: 0,
-        frame: 0,
-        countdown: 0,
-        kept: 0,
-    }
+    Open::default()
 }
 
 // What is left of it when a report comes in slot `q`, in turn or not.
@@ -32,17 +22,10 @@ pub fn older_run(turn: bool, q: Place, a: Open) -> Open
     if !turn {
         return no_run();
     }
-    let fields = a.fields;
-    let raw = a.raw;
     Open {
-        fields: same_fields(fields),
-        raw,
-        held: a.held,
+        fields: same_fields(a.fields),
         again: wane(q, a.again),
-        more: a.more,
-        frame: a.frame,
-        countdown: a.countdown,
-        kept: a.kept,
+        ..a
     }
 }
 
@@ -50,64 +33,35 @@ pub fn older_run(turn: bool, q: Place, a: Open) -> Open
 pub(crate) fn is_due(a: Open, q: Place) -> bool
     ensures { result ≡ is_due a q }
 {
-    if a.held != 1 {
-        return false;
-    }
-    if q.slot != 1 {
-        return false;
-    }
-    q.frame == blocks::slots::frame_of(a.frame, a.countdown, a.kept)
+    a.held == 1 && q.slot == 1 && q.frame == blocks::slots::frame_of(a.frame, a.countdown, a.kept)
 }
 
 // Whether a header, its SCH/H but for the countdown and its countdown, repeats an earlier one.
 fn repeats(raw: Raw, again: u8, other: Raw, countdown: u8) -> bool
     ensures { result ≡ repeats raw again other countdown }
 {
-    if !store::same(raw, other) {
-        return false;
-    }
-    if again == 0 {
-        return false;
-    }
-    countdown == again - 1
+    store::same(raw, other) && again != 0 && countdown == again - 1
 }
 
 // Whether a header repeats its own, before the first block; `meant` where that is for this unit.
 pub(crate) fn renews(a: Open, meant: bool, raw: Raw, countdown: u8) -> bool
     ensures { result ≡ renews a meant raw countdown }
 {
-    if !meant {
-        return false;
-    }
-    if a.kept != 0 {
-        return false;
-    }
-    let own = a.raw;
-    repeats(own, a.again, raw, countdown)
+    meant && a.kept == 0 && repeats(a.raw, a.again, raw, countdown)
 }
 
 // Whether what was open is gone with this act.
 pub fn clears(act: Act) -> bool
     ensures { result ≡ clears act }
 {
-    match act {
-        Act::Stays => false,
-        Act::Ends => true,
-        Act::Opens => true,
-        Act::Takes => false,
-    }
+    matches!(act, Act::Ends | Act::Opens)
 }
 
 // Whether the bits that the report brings are joined.
 pub fn joins(act: Act) -> bool
     ensures { result ≡ joins act }
 {
-    match act {
-        Act::Stays => false,
-        Act::Ends => false,
-        Act::Opens => true,
-        Act::Takes => true,
-    }
+    matches!(act, Act::Opens | Act::Takes)
 }
 
 // What becomes of it: it stays, it ends, the header in this frame opens one, it has one block more.
@@ -119,18 +73,17 @@ pub fn run_after(act: Act, x: Brought, frame: u8, a: Open) -> Open
         if !joins(act) {
             return a;
         }
-        let mut o = a;
-        o.kept = a.kept + 1;
-        return o;
+        return Open {
+            kept: a.kept + 1,
+            ..a
+        };
     }
     if !joins(act) {
         return no_run();
     }
-    let fields = x.fields;
-    let raw = x.raw;
     Open {
-        fields,
-        raw,
+        fields: x.fields,
+        raw: x.raw,
         held: 1,
         again: x.countdown + 1,
         more: x.more,
@@ -144,8 +97,5 @@ pub fn run_after(act: Act, x: Brought, frame: u8, a: Open) -> Open
 pub fn broken_off(turn: bool, a: Open) -> bool
     ensures { result ≡ broken_off turn a }
 {
-    if turn {
-        return false;
-    }
-    a.held == 1
+    !turn && a.held == 1
 }

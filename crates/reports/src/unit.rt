@@ -22,13 +22,9 @@ impl Settings {
     pub fn fit(self) -> bool
         ensures { result ≡ fit self }
     {
-        if Settings::MOST < self.individual {
-            return false;
-        }
-        if Settings::MOST < self.group {
-            return false;
-        }
-        self.mni <= Settings::MOST
+        self.individual <= Settings::MOST
+            && self.group <= Settings::MOST
+            && self.mni <= Settings::MOST
     }
 
     // Whether a header with these fields is for this unit.
@@ -36,15 +32,6 @@ impl Settings {
         ensures { result ≡ for_unit self g }
     {
         let d = g.destination;
-        if d.kind != 0 {
-            return false;
-        }
-        if g.mni != self.mni {
-            return false;
-        }
-        if d.ssi == self.individual {
-            return true;
-        }
-        d.ssi == self.group
+        d.kind == 0 && g.mni == self.mni && (d.ssi == self.individual || d.ssi == self.group)
     }
 }

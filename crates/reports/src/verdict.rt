@@ -1,17 +1,16 @@
 // What a report comes to, before anything is changed: the rules, side by side. `lost` where an open assembly was
 // broken off.
-ghost use Rattle.std.specs.Prelude.{◌≡◌, cond, not, ◌≤◌, eqb, length};
+ghost use Rattle.std.specs.Prelude.{◌≡◌, cond, not, ◌≤◌};
 ghost use Rattle.history.specs.Step.{verdict, missed, passed, on_nothing, on_frag, on_end};
 ghost use Rattle.history.specs.Step.{on_fragmented, on_unfragmented};
 ghost use Rattle.reports.specs.Nears.{Judged};
-ghost use Rattle.reports.specs.Reading.{number_of};
 
 use crate::near::copied;
 use crate::read::Brought;
 use crate::run::{is_due, renews};
-use history::{Act, Open, Outcome, Place, Verdict, What};
+use history::{Act, Nears, Open, Outcome, Place, Verdict, What};
 
-fn verdict(outcome: u8, dropped: bool, act: Act, near: bool) -> Verdict
+fn verdict(outcome: Outcome, dropped: bool, act: Act, near: bool) -> Verdict
     ensures { result ≡ verdict outcome dropped act near }
 {
     Verdict {
@@ -26,24 +25,21 @@ fn verdict(outcome: u8, dropped: bool, act: Act, near: bool) -> Verdict
 fn missed() -> Verdict
     ensures { result ≡ missed }
 {
-    verdict(Outcome::NOTHING, true, Act::Ends, false)
+    verdict(Outcome::Quiet, true, Act::Ends, false)
 }
 
 // A block that is not due changes nothing.
 fn passed(lost: bool) -> Verdict
     ensures { result ≡ passed lost }
 {
-    verdict(Outcome::NOTHING, lost, Act::Stays, false)
+    verdict(Outcome::Quiet, lost, Act::Stays, false)
 }
 
 // Nothing was heard, or a block with a fault.
 fn on_nothing(due: bool, lost: bool) -> Verdict
     ensures { result ≡ on_nothing due lost }
 {
-    if due {
-        return missed();
-    }
-    passed(lost)
+    if due { missed() } else { passed(lost) }
 }
 
 // A DMAC-FRAG was heard; `last` where only the last block is still to come.
@@ -56,7 +52,7 @@ fn on_frag(due: bool, last: bool, lost: bool) -> Verdict
     if last {
         return missed();
     }
-    verdict(Outcome::KEPT, lost, Act::Takes, false)
+    verdict(Outcome::Kept, lost, Act::Takes, false)
 }
 
 // A DMAC-END was heard.
@@ -69,17 +65,14 @@ fn on_end(due: bool, last: bool, lost: bool) -> Verdict
     if !last {
         return missed();
     }
-    verdict(Outcome::JOINED, lost, Act::Ends, false)
+    verdict(Outcome::Joined, lost, Act::Ends, false)
 }
 
 // The mark that a fragmented header leaves: an open assembly ends, but where the header renews it.
 fn mark(held: bool, renewed: bool, lost: bool) -> bool
     ensures { result ≡ cond held (not renewed) lost }
 {
-    if held {
-        return !renewed;
-    }
-    lost
+    if held { !renewed } else { lost }
 }
 
 // A fragmented header was heard.
@@ -88,9 +81,9 @@ fn on_fragmented(meant: bool, held: bool, renewed: bool, lost: bool) -> Verdict
 {
     let dropped = mark(held, renewed, lost);
     if !meant {
-        return verdict(Outcome::NOTHING, dropped, Act::Ends, false);
+        return verdict(Outcome::Quiet, dropped, Act::Ends, false);
     }
-    verdict(Outcome::OPENED, dropped, Act::Opens, false)
+    verdict(Outcome::Opened, dropped, Act::Opens, false)
 }
 
 // An unfragmented header was heard: to an open assembly it is as if nothing was heard.
@@ -101,54 +94,32 @@ fn on_unfragmented(due: bool, meant: bool, copied: bool, lost: bool) -> Verdict
     if !meant {
         return p;
     }
-    let act = p.act;
     if copied {
-        return verdict(Outcome::COPY, p.dropped, act, false);
+        return verdict(Outcome::Copied, p.dropped, p.act, false);
     }
-    verdict(Outcome::UNFRAGMENTED, p.dropped, act, true)
-}
-
-// The number of what a report brings, in the order of `What`.
-fn number(what: What) -> u8
-    ensures { result ≡ number_of what }
-{
-    match what {
-        What::Nothing => 0,
-        What::Fragmented => 1,
-        What::Unfragmented => 2,
-        What::Frag => 3,
-        What::End => 4,
-    }
-}
-
-// Whether it brings this.
-fn is(what: What, other: What) -> bool
-    ensures { result ≡ eqb (number_of what) (number_of other) }
-{
-    number(what) == number(other)
+    verdict(Outcome::Single, p.dropped, p.act, true)
 }
 
 // By what the report in slot `q` brings, over what is left of the open run and of the earlier headers.
-pub fn judge(x: Brought, a: Open, places: &[u64], count: usize, q: Place, lost: bool) -> Verdict
-    requires { (count ≤ 7) × (length places.now ≡ 21) }
-    ensures { Judged x a places.now count q lost result }
+// Kept: questions by `==`, and no `match`, which would copy the record (docs/DECISIONS.md, 91).
+pub fn judge(x: Brought, a: Open, near: &Nears, q: Place, lost: bool) -> Verdict
+    requires { near.now.count ≤ 7 }
+    ensures { Judged x a near.now.places near.now.count q lost result }
 {
     let due = is_due(a, q);
     let last = a.kept == a.more;
-    let raw = x.raw;
-    let what = x.what;
-    if is(what, What::Nothing) {
+    if x.what == What::Nothing {
         return on_nothing(due, lost);
     }
-    if is(what, What::Fragmented) {
-        let renewed = renews(a, x.meant, raw, x.countdown);
+    if x.what == What::Fragmented {
+        let renewed = renews(a, x.meant, x.raw, x.countdown);
         return on_fragmented(x.meant, a.held == 1, renewed, lost);
     }
-    if is(what, What::Unfragmented) {
-        let copy = copied(places, count, raw, x.countdown);
+    if x.what == What::Unfragmented {
+        let copy = copied(near, x.raw, x.countdown);
         return on_unfragmented(due, x.meant, copy, lost);
     }
-    if is(what, What::Frag) {
+    if x.what == What::Frag {
         return on_frag(due, last, lost);
     }
     on_end(due, last, lost)

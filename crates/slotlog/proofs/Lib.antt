@@ -5,3 +5,4 @@ pub mod RoomLaws
 pub mod AskedLaws
 pub mod PrinterLaws
 pub mod LawsHold
+pub mod LineLaws

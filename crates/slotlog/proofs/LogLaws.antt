@@ -87,12 +87,14 @@ module _ (w : List ℕ) where
   whole_when false true c d g h r = absurd r
   whole_when false false true d g h r = absurd r
   whole_when false false false true g h r = absurd r
-  whole_when false false false false g h r = (refl, (ltb-false (two_at w 0) 2 g, ltb-false (length w) (two_at w 0 + 2) h))
+  whole_when false false false false g h r =
+      (refl, (ltb-false (two_at w 0) 2 g, ltb-false (length w) (two_at w 0 + 2) h))
 
   whole : Sized (next_in w) → (next_in w ≡ whole_of (two_at w 2) (two_at w 0 - 2)) × Whole w
   unfolding next_in
   whole r =
-      whole_when (eqb (length w) 0) (ltb (length w) 2) (ltb (two_at w 0) 2) (ltb (length w) (two_at w 0 + 2)) refl refl r
+      whole_when (eqb (length w) 0) (ltb (length w) 2) (ltb (two_at w 0) 2) (ltb (length w) (two_at w 0 + 2))
+      refl refl r
 
   -- what is left where there is no record: nothing, or something
   left_when : (a b c d : Bool) → eqb (length w) 0 ≡ a → Left (length w) (chosen a b c d)

@@ -1,13 +1,15 @@
 -- What the printer has printed. Assumes nothing.
 use mathlib.Core.Path.{◌≡◌, refl, sym, ap, ap₂, ◌∙◌}
 use mathlib.Core.Bool.{Bool, true, false, cond, ◌&&◌}
+use Rattle.std.specs.Prelude.{Ok, Err}
+use Rattle.blocks.specs.declared.fault.Fault.TheVariants.{Range}
 use mathlib.Core.List.{List, [], ◌∷◌, ◌++◌, append_assoc, append-nil}
 use Prim.Native.Nat.{ℕ, ◌+◌, ◌≤◌}
 use native.Mathlib.Omega.{arith}
 use lib.Dec.{eqb, leb}
 use lib.ListN.{length, take, drop, get_or, length-append, get_or-append}
 use lib.Seq.{drop-append-le, take_at}
-use borrow.Author.Tests.{le-leb}
+use borrow.Author.Tests.{le-leb, eqb-true}
 use Rattle.history.specs.Line.{start}
 use Rattle.reports.specs.Units.{settings_fit}
 use Rattle.reports.specs.declared.unit.Settings.{Settings}
@@ -16,9 +18,12 @@ use Rattle.receiver.specs.Reached.{receiver_at, Leads}
 use Rattle.receiver.specs.declared.Receiver.{Receiver}
 use Rattle.receiver.specs.declared.Fresh.{Fresh}
 use Rattle.receiver.proofs.HearLaws.{fresh_leads}
-use Rattle.slotlog.specs.Log.{settings_at, is_first, is_unit, first_bytes, begun_as, begun_by, entries}
+use Rattle.slotlog.specs.Log.{settings_at, is_first, is_unit, first_bytes, entries}
+use Rattle.slotlog.specs.Log.{Beginning, begun_as, begun_by, begun}
 use Rattle.slotlog.specs.declared.log.Begun.{Begun}
 use Rattle.slotlog.specs.declared.run.Run.{Run}
+use Rattle.slotlog.specs.declared.run.State.{State}
+use Rattle.slotlog.specs.declared.run.State.TheVariants.{Wants, Cut}
 use Rattle.slotlog.specs.Replies.{LogReply, to_cut, replies_of}
 use Rattle.slotlog.specs.Print.{unit_line, cut_line, lines_of, printed}
 use Rattle.slotlog.specs.Runs.{Stage, run_over, Ran, unless_cut, end_line}
@@ -30,7 +35,7 @@ use Rattle.slotlog.proofs.TurnLaws.{Come, come_over}
 -- ---- the first record, whatever follows
 
 -- how a log starts, by whether it starts with settings and whether they are in range
-abbrev begun_as_lem : Bool → Bool → Settings → ℕ → Begun
+abbrev begun_as_lem : Bool → Bool → Settings → ℕ → Beginning
 begun_as_lem b c s took =
     let none : Fresh = record { fault = 13; receiver = new_receiver 0 0 0 } in
     let fresh : Fresh = record { fault = 0; receiver = new_receiver s.individual s.group s.mni } in
@@ -48,6 +53,16 @@ begun_is : (w : List ℕ) → (begun_by w).fault ≡ 0
 begun_is w z =
     let s = settings_at w in
     begun_when (is_first w) (settings_fit s.individual s.group s.mni) s (first_bytes w) refl z
+
+begun_ok : (x : Beginning) (b : Begun) → begun x ≡ Ok b
+    → (x.fault ≡ 0) × (b.took ≡ x.took) × (b.receiver ≡ x.receiver)
+begun_ok x b e = when (eqb x.fault 0) refl e
+  where
+    when : (c : Bool) → eqb x.fault 0 ≡ c
+        → cond c (Ok (record { took = x.took; receiver = x.receiver })) (Err Range) ≡ Ok b
+        → (x.fault ≡ 0) × (b.took ≡ x.took) × (b.receiver ≡ x.receiver)
+    when true f e = (eqb-true x.fault 0 f, cc, cc)
+    when false f e = cc
 
 no_unit_when : (b c : Bool) (s : Settings) (took : ℕ) → ((begun_as_lem b c s took).fault ≡ 0 → ⊥) → (b && c) ≡ false
 no_unit_when true true s took n = absurd (n refl)
@@ -87,8 +102,8 @@ unit_same w z h =
 -- ---- what was printed, and what is to come
 
 -- one run more, from the stage that it came to
-run_then : {input left text : List ℕ} {r : Receiver} {state : ℕ} (f : Printed input left text r state)
-    → (state ≡ 2 → ⊥)
+run_then : {input left text : List ℕ} {r : Receiver} {state : State} (f : Printed input left text r state)
+    → (state ≡ Cut → ⊥)
     → (u : Stage) → Come f.settings f.heard left u
     → Printed input (drop u.read left) (text ++ u.text) (receiver_at f.settings u.heard) u.state
 run_then f n u c =
@@ -105,7 +120,8 @@ run_then f n u c =
       goes = goes_both f.said w.said f.goes n w.goes;
     }
 
-ran_then : {input left text : List ℕ} {r : Receiver} {state : ℕ} → Printed input left text r state → (state ≡ 2 → ⊥)
+ran_then : {input left text : List ℕ} {r : Receiver} {state : State} → Printed input left text r state
+    → (state ≡ Cut → ⊥)
     → {old new : List ℕ} {x : Run} → Ran r left old x new
     → Printed input (drop x.read left) (text ++ take x.written new) x.receiver x.state
 ran_then {left = left} f e {old} {new} g =
@@ -116,12 +132,13 @@ ran_then {left = left} f e {old} {new} g =
     let t : take n new ≡ u.text = ap (take n) a.output ∙ take_at u.text (drop n old) n refl in
     rw (a.answer, t) (run_then f e u (come_over s f.heard left (length old)))
 
-pub so_far : {input left text : List ℕ} {r : Receiver} {state : ℕ} → Prints input left text r state
+pub so_far : {input left text : List ℕ} {r : Receiver} {state : State} → Prints input left text r state
     → Printed input left text r state
 unfolding lines_of
-so_far (first input b e z) =
+so_far (first input b e) =
     let s = settings_at input in
-    let u = begun_is input (sym (ap (λ (x : Begun). x.fault) e) ∙ z) in
+    let k = begun_ok (begun_by input) b e in
+    let u = begun_is input k.0 in
     let h : first_bytes input ≤ length input =
     first_long input (and_first (is_first input) (settings_fit s.individual s.group s.mni) u.0) in
     record {
@@ -132,8 +149,8 @@ so_far (first input b e z) =
       lines = refl;
       unit = λ more. (unit_same input more h).0 ∙ u.0;
       replies = λ more. rw ((unit_same input more h).1, drop-append-le (first_bytes input) input more h) refl;
-      leads = rw e u.2;
-      goes = rw (e, u.1) (goes_none s start (drop (first_bytes input) input));
+      leads = rw k.2 u.2;
+      goes = rw (k.1, u.1) (goes_none s start (drop (first_bytes input) input));
     }
 so_far (more {input} {left} {text} p n part) =
     let f = so_far p in
@@ -150,7 +167,7 @@ so_far (more {input} {left} {text} p n part) =
     }
 so_far (run p n old new x g) = ran_then (so_far p) n g
 
-pub printed_so_far : {input left text : List ℕ} {r : Receiver} {state : ℕ} (f : Printed input left text r state)
+pub printed_so_far : {input left text : List ℕ} {r : Receiver} {state : State} (f : Printed input left text r state)
     (z : List ℕ)
     → printed (input ++ z)
     ≡ text ++ lines_of (unless_cut state (replies_of f.settings f.heard (entries (left ++ z))))
@@ -166,12 +183,12 @@ end_line_lem false = refl
 
 -- A record was cut: all is printed, whatever follows. The input has ended, and the run wants more of it: the lines so
 -- far, and `cut` where bytes are left over, are all that is printed of it.
-pub printed_cut : {input left text : List ℕ} {r : Receiver} → Prints input left text r 2 → (z : List ℕ)
+pub printed_cut : {input left text : List ℕ} {r : Receiver} → Prints input left text r Cut → (z : List ℕ)
     → printed (input ++ z) ≡ text
 unfolding lines_of
 printed_cut {text = text} p z = printed_so_far (so_far p) z ∙ append-nil text
 
-pub printed_end : {input left text : List ℕ} {r : Receiver} → Prints input left text r 1
+pub printed_end : {input left text : List ℕ} {r : Receiver} → Prints input left text r Wants
     → printed input ≡ text ++ end_line left
 printed_end {input} {left} {text} p =
     let f = so_far p in
@@ -182,7 +199,8 @@ printed_end {input} {left} {text} p =
     ∙ ap (λ (l : List ℕ). text ++ l) (end_line_lem (eqb (length left) 0))
 
 -- The first bytes, or fewer where the log is shorter, that give no receiver: `unit` is all that is printed.
-pub printed_unit : (w z : List ℕ) → ((begun_by w).fault ≡ 0 → ⊥) → first_bytes w ≤ length w → printed (w ++ z) ≡ unit_line
+pub printed_unit : (w z : List ℕ) → ((begun_by w).fault ≡ 0 → ⊥) → first_bytes w ≤ length w
+    → printed (w ++ z) ≡ unit_line
 printed_unit w z n h = rw ((unit_same w z h).0 ∙ no_unit w n) refl
 
 pub printed_short : (w : List ℕ) → ((begun_by w).fault ≡ 0 → ⊥) → printed w ≡ unit_line

@@ -2,6 +2,7 @@
 use mathlib.Core.Path.{◌≡◌, refl, sym, ap, ap₂, ◌∙◌}
 use mathlib.Core.List.{List, [], ◌∷◌, ◌++◌, append_assoc, append-nil}
 use mathlib.Core.Option.{Option, none, some}
+use mathlib.Core.Logic.{◌⊎◌, inl, inr}
 use Prim.Native.Nat.{ℕ, zero, suc, ◌+◌, ◌-◌, ◌≤◌}
 use native.Mathlib.Omega.{arith}
 use lib.ListN.{length, take, drop, get_or}
@@ -25,6 +26,8 @@ use Rattle.slotlog.specs.Runs.{Goes, shown_as, only, RepliesAs}
 use Rattle.slotlog.specs.declared.replies.Shown.{Shown}
 use Rattle.slotlog.specs.declared.replies.Shown.TheVariants as shown
 use Rattle.slotlog.specs.declared.replies.NextReply.{NextReply}
+use Rattle.slotlog.specs.declared.run.State.{State}
+use Rattle.slotlog.specs.declared.run.State.TheVariants as state
 use Rattle.slotlog.proofs.LogLaws.{ReportAt, report_at, other_size, entries_report, entries_other}
 use Rattle.slotlog.proofs.LogLaws.{entries_cut, entries_end, entries_part}
 
@@ -116,15 +119,15 @@ module _ (s : Settings) (ls : Line Event) (rest : List ℕ) where
   unfolding passed
   next_inside = passing_inside (next_in rest) refl
 
-  passing_forward : (x : Next) → next_in rest ≡ x → state_of (passing s ls rest x).shown ≡ 0
+  passing_forward : (x : Next) → next_in rest ≡ x → state_of (passing s ls rest x).shown ≡ state.GoesOn
       → 1 ≤ (passing s ls rest x).took
-  passing_forward End e z = absurd (omega arith)
-  passing_forward Part e z = absurd (omega arith)
-  passing_forward Cut e z = absurd (omega arith)
+  passing_forward End e z = cc
+  passing_forward Part e z = cc
+  passing_forward Cut e z = cc
   passing_forward (Other n) e z = omega (arith, (other_size rest n e).0)
   passing_forward (Report n) e z = omega (arith, (report_at rest n e).least)
 
-  pub next_forward : state_of (passed s ls rest).shown ≡ 0 → 1 ≤ (passed s ls rest).took
+  pub next_forward : state_of (passed s ls rest).shown ≡ state.GoesOn → 1 ≤ (passed s ls rest).took
   unfolding passed
   next_forward = passing_forward (next_in rest) refl
 
@@ -157,20 +160,20 @@ module _ (s : Settings) (ls : Line Event) (rest : List ℕ) where
       record {
         reply = some to_cut;
         shown = refl;
-        goes = record { replies = λ more. rw (entries_cut rest more e) refl; ends = λ u. absurd (omega arith) };
+        goes = record { replies = λ more. rw (entries_cut rest more e) refl; ends = λ u. cc };
       }
   passing_goes (Other n) e =
       record {
         reply = some to_other;
         shown = refl;
-        goes = record { replies = λ more. rw (entries_other rest more n e) refl; ends = λ u. absurd (omega arith) };
+        goes = record { replies = λ more. rw (entries_other rest more n e) refl; ends = λ u. cc };
       }
   passing_goes (Report n) e =
       let l = report_in n rest in
       record {
         reply = some (to_report s ls l (answer_when (refusal l) s ls l));
         shown = refl;
-        goes = record { replies = λ more. rw (entries_report rest more n e) refl; ends = λ u. absurd (omega arith) };
+        goes = record { replies = λ more. rw (entries_report rest more n e) refl; ends = λ u. cc };
       }
 
   pub next_goes : RepliesAs s ls rest (passed s ls rest)
@@ -184,32 +187,37 @@ replies_inside {rest = rest} k r =
 
 -- ---- runs one after the other
 
+not_cut : {A : Type 0} (at : State) → (at ≡ state.Cut → ⊥) → (more : List A) → unless_cut at more ≡ more
+not_cut state.GoesOn n more = refl
+not_cut state.Wants n more = refl
+not_cut state.Cut n more = absurd (n refl)
+
 -- from the start of a log to itself
-pub goes_none : (s : Settings) (ls : Line Event) (rest : List ℕ) → Goes s ls rest [] rest ls 0
-goes_none s ls rest = record { replies = λ more. refl; ends = λ u. absurd (omega arith) }
+pub goes_none : (s : Settings) (ls : Line Event) (rest : List ℕ) → Goes s ls rest [] rest ls state.GoesOn
+goes_none s ls rest = record { replies = λ more. refl; ends = λ u. cc }
 
 pub goes_both : {s : Settings} {ls mid_heard heard : Line Event} {rest mid left : List ℕ} (a b : List LogReply)
-    {i state : ℕ} → Goes s ls rest a mid mid_heard i → (i ≡ 2 → ⊥) → Goes s mid_heard mid b left heard state
-    → Goes s ls rest (a ++ b) left heard state
-goes_both {s} {heard = heard} {left = left} a b {i} {state} g n h =
+    {i at : State} → Goes s ls rest a mid mid_heard i → (i ≡ state.Cut → ⊥) → Goes s mid_heard mid b left heard at
+    → Goes s ls rest (a ++ b) left heard at
+goes_both {s} {heard = heard} {left = left} a b {i} {at} g n h =
     record {
       replies = λ more.
           g.replies more
-          ∙ rw (ne_eqb i 2 n, h.replies more)
-          (sym (append_assoc a b (unless_cut state (replies_of s heard (entries (left ++ more))))));
+          ∙ rw (not_cut i n _, h.replies more)
+          (sym (append_assoc a b (unless_cut at (replies_of s heard (entries (left ++ more))))));
       ends = h.ends;
     }
 
 -- more of the log comes
-pub goes_more : {s : Settings} {ls heard : Line Event} {rest left : List ℕ} (said : List LogReply) {state : ℕ}
-    → Goes s ls rest said left heard state → (state ≡ 2 → ⊥) → (part : List ℕ)
-    → Goes s ls (rest ++ part) said (left ++ part) heard 0
-goes_more {rest = rest} {left} said {state} g n part =
+pub goes_more : {s : Settings} {ls heard : Line Event} {rest left : List ℕ} (said : List LogReply) {at : State}
+    → Goes s ls rest said left heard at → (at ≡ state.Cut → ⊥) → (part : List ℕ)
+    → Goes s ls (rest ++ part) said (left ++ part) heard state.GoesOn
+goes_more {rest = rest} {left} said {at} g n part =
     record {
       replies = λ more.
           rw (append_assoc rest part more, append_assoc left part more)
-          (g.replies (part ++ more) ∙ rw (ne_eqb state 2 n) refl);
-      ends = λ u. absurd (omega arith);
+          (g.replies (part ++ more) ∙ rw (not_cut at n _) refl);
+      ends = λ u. cc;
     }
 
 -- ---- the lines of replies
@@ -226,8 +234,7 @@ line_shown x (some (to_report s ls l a)) e = rw e (sym (append-nil (line_of l.fr
 line_shown x (some to_other) e = rw e refl
 line_shown x (some to_cut) e = rw e refl
 
-pub state_few : (x : Shown) → state_of x ≤ 2
-state_few (shown.Report frame slot a) = omega arith
-state_few shown.Other = omega arith
-state_few shown.Cut = omega arith
-state_few shown.Wants = omega arith
+pub three_states : (x : State) → (x ≡ state.GoesOn) ⊎ ((x ≡ state.Wants) ⊎ (x ≡ state.Cut))
+three_states state.GoesOn = inl refl
+three_states state.Wants = inr (inl refl)
+three_states state.Cut = inr (inr refl)

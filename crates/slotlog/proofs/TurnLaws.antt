@@ -4,10 +4,9 @@ use mathlib.Core.Bool.{Bool, true, false, cond, ◌&&◌}
 use mathlib.Core.List.{List, [], ◌++◌}
 use Prim.Native.Nat.{ℕ, zero, suc, ◌+◌, ◌-◌, ◌≤◌, ◌<◌}
 use native.Mathlib.Omega.{arith}
-use lib.Dec.{eqb}
 use lib.ListN.{length, take, drop, length-drop}
 use lib.Seq.{drop-drop, take_all}
-use borrow.Author.Tests.{leb-true, leb-false, eqb-true, eqb-false, eq-eqb, ne_eqb}
+use borrow.Author.Tests.{leb-true, leb-false}
 use Rattle.text.specs.Text.{Wrote, written}
 use Rattle.text.proofs.Writing.{wrote_none, wrote_both}
 use Rattle.history.specs.Line.{Line}
@@ -18,16 +17,35 @@ use Rattle.receiver.specs.declared.Receiver.{Receiver}
 use Rattle.slotlog.specs.Print.{lines_of}
 use Rattle.slotlog.specs.Room.{moved_up}
 use Rattle.slotlog.specs.Runs.{Passed, passed, Replies, state_of, shown_line, Stage, onward, turn, turns, run_over}
-use Rattle.slotlog.specs.Runs.{has_room, run_at, Ran, OneAs, One, only, Writes}
+use Rattle.slotlog.specs.Runs.{goes_on, has_room, run_at, Ran, OneAs, One, only, Writes}
 use Rattle.slotlog.specs.declared.replies.NextReply.{NextReply}
 use Rattle.slotlog.specs.declared.run.Run.{Run}
+use Rattle.slotlog.specs.declared.run.State.{State}
+use Rattle.slotlog.specs.declared.run.State.TheVariants.{GoesOn, Wants, Cut}
 use Rattle.slotlog.proofs.RunLaws.{next_inside, next_forward, next_leads, next_goes, goes_none, goes_both}
-use Rattle.slotlog.proofs.RunLaws.{lines_both, line_shown, state_few}
+use Rattle.slotlog.proofs.RunLaws.{lines_both, line_shown}
+
+-- ---- whether it goes on
+
+goes : (x : State) → goes_on x ≡ true → x ≡ GoesOn
+goes GoesOn e = refl
+goes Wants e = cc
+goes Cut e = cc
+
+stops : (x : State) → (x ≡ GoesOn → ⊥) → goes_on x ≡ false
+stops GoesOn n = absurd (n refl)
+stops Wants n = refl
+stops Cut n = refl
+
+stopped : (x : State) → goes_on x ≡ false → x ≡ GoesOn → ⊥
+stopped GoesOn f e = cc
+stopped Wants f e = cc
+stopped Cut f e = cc
 
 -- ---- one turn
 
 abbrev first : Line Event → Stage
-first ls = record { heard = ls; read = 0; text = []; state = 0 }
+first ls = record { heard = ls; read = 0; text = []; state = GoesOn }
 
 module _ (s : Settings) (log : List ℕ) where
   -- what a turn passes
@@ -36,18 +54,18 @@ module _ (s : Settings) (log : List ℕ) where
 
   module _ (room : ℕ) (x : Stage) where
     -- a turn is made; it is not for want of room, or in another state
-    turn_made : x.state ≡ 0 → has_room room (length x.text) ≡ true → turn s log room x ≡ onward x (ahead x)
-    turn_made e h = rw (eq-eqb x.state 0 e, h) refl
+    turn_made : x.state ≡ GoesOn → has_room room (length x.text) ≡ true → turn s log room x ≡ onward x (ahead x)
+    turn_made e h = rw (ap goes_on e, h) refl
 
     turn_full : has_room room (length x.text) ≡ false → turn s log room x ≡ x
-    turn_full h = full_when (eqb x.state 0) (has_room room (length x.text)) h
+    turn_full h = full_when (goes_on x.state) (has_room room (length x.text)) h
       where
         full_when : (b c : Bool) → c ≡ false → cond (b && c) (onward x (ahead x)) x ≡ x
         full_when true c h = rw h refl
         full_when false c h = refl
 
-    turn_over : (x.state ≡ 0 → ⊥) → turn s log room x ≡ x
-    turn_over n = rw (ne_eqb x.state 0 n) refl
+    turn_over : (x.state ≡ GoesOn → ⊥) → turn s log room x ≡ x
+    turn_over n = rw (stops x.state n) refl
 
   -- where a turn changes nothing, more of them do not
   turns_still : (room k : ℕ) (x : Stage) → turn s log room x ≡ x → turns k s log room x ≡ x
@@ -56,24 +74,25 @@ module _ (s : Settings) (log : List ℕ) where
   turns_still room (suc k) x e = ap (turns k s log room) e ∙ turns_still room k x e
 
 -- the turns that are left
-abbrev pub left_in : List ℕ → ℕ → ℕ → ℕ
-left_in log state read = cond (eqb state 0) (suc (length log - read)) 0
+abbrev pub left_in : List ℕ → State → ℕ → ℕ
+left_in log state read = cond (goes_on state) (suc (length log - read)) 0
 
 fewer_when : (b : Bool) {n m : ℕ} → (b ≡ true → n < m) → cond b (suc n) 0 < suc m
 fewer_when true h = let l = h refl in omega arith
 fewer_when false h = omega arith
 
-fewer_left : (s : Settings) (ls : Line Event) (log : List ℕ) (read state : ℕ) → read ≤ length log → state ≡ 0
+fewer_left : (s : Settings) (ls : Line Event) (log : List ℕ) (read : ℕ) (state : State) → read ≤ length log
+    → state ≡ GoesOn
     → (let p = passed s ls (drop read log) in
     left_in log (state_of p.shown) (read + p.took) < left_in log state read)
 fewer_left s ls log read state h z =
     let p = passed s ls (drop read log) in
     let i = next_inside s ls (drop read log) in
-    rw (eq-eqb state 0 z)
-    (fewer_when (eqb (state_of p.shown) 0)
+    rw (ap goes_on z)
+    (fewer_when (goes_on (state_of p.shown))
     (λ e.
     omega
-    (arith, next_forward s ls (drop read log) (eqb-true (state_of p.shown) 0 e), length-drop read log)))
+    (arith, next_forward s ls (drop read log) (goes (state_of p.shown) e), length-drop read log)))
 
 -- ---- what a run means
 
@@ -82,7 +101,6 @@ module _ (s : Settings) (ls : Line Event) (log : List ℕ) where
   pub record Come (x : Stage) : Type 0 where
     pub writes : Writes s ls log x
     pub inside : x.read ≤ length log
-    pub states : x.state ≤ 2
     pub leads : {before : Receiver} → Leads s ls before → Leads s x.heard (receiver_at s x.heard)
 
   come_first : Come (first ls)
@@ -91,11 +109,10 @@ module _ (s : Settings) (ls : Line Event) (log : List ℕ) where
       record {
         writes = record { said = []; lines = refl; goes = goes_none s ls log };
         inside = omega arith;
-        states = omega arith;
         leads = λ k. record { fit = k.fit; accepted = k.accepted; there = refl };
       }
 
-  come_on : (x : Stage) → Come x → x.state ≡ 0 → Come (onward x (ahead s log x))
+  come_on : (x : Stage) → Come x → x.state ≡ GoesOn → Come (onward x (ahead s log x))
   come_on x c z =
       let rest = drop x.read log in
       let p = ahead s log x in
@@ -108,19 +125,18 @@ module _ (s : Settings) (ls : Line Event) (log : List ℕ) where
           said = w.said ++ only g.reply;
           lines = ap₂ ◌++◌ w.lines (line_shown p.shown g.reply g.shown)
               ∙ sym (lines_both w.said (only g.reply));
-          goes = rw (sym d) (goes_both w.said (only g.reply) w.goes (λ u. omega arith) g.goes);
+          goes = rw (sym d) (goes_both w.said (only g.reply) w.goes (λ u. cc) g.goes);
         };
         inside = omega (arith, c.inside, length-drop x.read log);
-        states = state_few p.shown;
         leads = λ k. next_leads s x.heard rest (c.leads k);
       }
 
   module _ (room : ℕ) where
     come_turn : (x : Stage) → Come x → Come (turn s log room x)
-    come_turn x c = when (eqb x.state 0) (has_room room (length x.text)) refl
+    come_turn x c = when (goes_on x.state) (has_room room (length x.text)) refl
       where
-        when : (a b : Bool) → eqb x.state 0 ≡ a → Come (cond (a && b) (onward x (ahead s log x)) x)
-        when true true e = come_on x c (eqb-true x.state 0 e)
+        when : (a b : Bool) → goes_on x.state ≡ a → Come (cond (a && b) (onward x (ahead s log x)) x)
+        when true true e = come_on x c (goes x.state e)
         when true false e = c
         when false b e = c
 
@@ -132,29 +148,29 @@ module _ (s : Settings) (ls : Line Event) (log : List ℕ) where
     pub come_over : Come (run_over s ls log room)
     come_over = come_turns _ (first ls) come_first
 
-    -- with turns enough it stops in state 0 for want of room only
+    -- with turns enough it stops in state GoesOn for want of room only
     abbrev Full : Stage → Type 0
-    Full x = x.state ≡ 0 → room < length x.text + 128
+    Full x = x.state ≡ GoesOn → room < length x.text + 128
 
     full_turns : (k : ℕ) (x : Stage) → Come x → left_in log x.state x.read ≤ k → Full (turns k s log room x)
     unfolding turns
-    full_turns zero x c h = λ z. let m = rw (eq-eqb x.state 0 z) at h in absurd (omega arith)
+    full_turns zero x c h = λ z. let m = rw (ap goes_on z) at h in absurd (omega arith)
     full_turns (suc k) x c h =
         let y = onward x (ahead s log x) in
-        when (λ d l. full_turns k y d l) (eqb x.state 0) (has_room room (length x.text)) refl refl
+        when (λ d l. full_turns k y d l) (goes_on x.state) (has_room room (length x.text)) refl refl
       where
         when : (let y = onward x (ahead s log x) in Come y → left_in log y.state y.read ≤ k
             → Full (turns k s log room y))
-            → (a b : Bool) → eqb x.state 0 ≡ a → has_room room (length x.text) ≡ b
+            → (a b : Bool) → goes_on x.state ≡ a → has_room room (length x.text) ≡ b
             → Full (turns k s log room (cond (a && b) (onward x (ahead s log x)) x))
         when more true true e f =
-            let z = eqb-true x.state 0 e in
+            let z = goes x.state e in
             more (come_on x c z) (omega (arith, h, fewer_left s x.heard log x.read x.state c.inside z))
         when more true false e f =
             rw (turns_still s log room k x (turn_full s log room x f))
             (λ z. omega (arith, leb-false 128 (room - length x.text) f))
         when more false b e f =
-            let n = eqb-false x.state 0 e in
+            let n = stopped x.state e in
             rw (turns_still s log room k x (turn_over s log room x n)) (λ z. absurd (n z))
 
     pub run_full : Full (run_over s ls log room)
@@ -202,7 +218,7 @@ pub record SoFar (before : Receiver) (log old : List ℕ) (x : Run) (new : List 
   pub at : (s : Settings) (ls : Line Event) → Leads s ls before → At s ls log old x new
 
 pub begun : (before : Receiver) (log old : List ℕ) → Reached before
-    → SoFar before log old (record { receiver = before; read = 0; written = 0; state = 0 }) old
+    → SoFar before log old (record { receiver = before; read = 0; written = 0; state = GoesOn }) old
 begun before log old k =
     record {
       room = omega arith;
@@ -246,7 +262,7 @@ module _ {before : Receiver} {log old : List ℕ} {x : Run} {new : List ℕ} (f 
       let n : length a.stage.text ≡ x.written = omega (arith, a.wrote.after) in
       ap₂ has_room (sym f.same) n ∙ e
 
-  module _ {y : Run} {late : List ℕ} (z : x.state ≡ 0) (o : One (drop x.read log) x new y late) where
+  module _ {y : Run} {late : List ℕ} (z : x.state ≡ GoesOn) (o : One (drop x.read log) x new y late) where
     -- the next record, for the settings and reports that are known to lead to the receiver
     known : OneAs f.reached.settings (passed f.reached.settings f.reached.heard (drop x.read log)) x new
         y late
@@ -261,7 +277,7 @@ module _ {before : Receiver} {log old : List ℕ} {x : Run} {new : List ℕ} (f 
         → (k : ℕ) → a.left ≡ k → At s ls log old y late
     unfolding turns
     at_next s ls h a zero e =
-        let m = rw (eq-eqb x.state 0 z) at a.enough in absurd (omega arith)
+        let m = rw (ap goes_on z) at a.enough in absurd (omega arith)
     at_next s ls h a (suc k) e =
         let u = a.stage in
         let p = ahead s log u in
@@ -317,7 +333,7 @@ module _ {before : Receiver} {log old : List ℕ} {x : Run} {new : List ℕ} (f 
   pub ran_full : has_room (length new) x.written ≡ false → Ran before log old x new
   ran_full h = ran (λ s ls a. turn_full s log (length old) a.stage (room_is a h))
 
-  pub ran_over : (x.state ≡ 0 → ⊥) → Ran before log old x new
+  pub ran_over : (x.state ≡ GoesOn → ⊥) → Ran before log old x new
   ran_over n = ran (λ s ls a. turn_over s log (length old) a.stage (λ e. n (a.state ∙ e)))
 
 pub run_unique : {before : Receiver} {log old : List ℕ} → Reached before → {r q : Run} {new new' : List ℕ}

@@ -1,15 +1,34 @@
 -- The records of a slot log (document 01, 'The slot log and its printer'). A record is two bytes length of what
 -- follows, two bytes kind, body; numbers have their lowest byte first.
-use Rattle.std.specs.Prelude.{Bool, cond, ◌&&◌, List, [], ◌∷◌, ℕ, zero, suc, ◌+◌, ◌-◌, eqb, leb, ltb, length, take, drop, get_or}
+use Rattle.std.specs.Prelude.{Bool, cond, ◌&&◌, List, [], ◌∷◌, ℕ, zero, suc, ◌+◌, ◌-◌, eqb, leb, ltb}
+use Rattle.std.specs.Prelude.{length, take, drop, get_or}
+use Rattle.std.specs.Prelude.{Option, Some, None, Result, Ok, Err}
+use Rattle.blocks.specs.declared.fault.Fault.{Fault}
+use Rattle.blocks.specs.declared.fault.Fault.TheVariants.{Range}
 use Rattle.records.specs.Numbers.{two_at, four_at}
 use Rattle.reports.specs.Lent.{Lent}
 use Rattle.reports.specs.Units.{settings_fit}
 use Rattle.reports.specs.declared.unit.Settings.{Settings}
 use Rattle.receiver.specs.View.{new_receiver, fresh_of}
 use Rattle.receiver.specs.declared.Fresh.{Fresh}
+use Rattle.receiver.specs.declared.Receiver.{Receiver}
 use Rattle.slotlog.specs.declared.log.Begun.{Begun}
+use Rattle.slotlog.specs.declared.log.Kind.{Kind}
+use Rattle.slotlog.specs.declared.log.Kind.TheVariants as kind
 use Rattle.slotlog.specs.declared.log.Next.{Next}
 use Rattle.slotlog.specs.declared.log.Next.TheVariants.{End, Part, Cut, Other, Report}
+
+-- The kinds and their numbers: settings; silence; SCH/S and SCH/H; SCH/F. Of any other number there is no kind.
+abbrev pub number_of : Kind → ℕ
+number_of kind.Settings = 0
+number_of kind.Silence = 1
+number_of kind.Header = 2
+number_of kind.Block = 3
+
+abbrev pub kind_of : ℕ → Option Kind
+kind_of n =
+    cond (eqb n 0) (Some kind.Settings)
+    (cond (eqb n 1) (Some kind.Silence) (cond (eqb n 2) (Some kind.Header) (cond (eqb n 3) (Some kind.Block) None)))
 
 -- The bytes of a kind's body: settings; a frame and a slot; the same with SCH/S and SCH/H; the same with SCH/F. An
 -- unknown kind asks for none.
@@ -58,14 +77,23 @@ abbrev pub first_bytes : List ℕ → ℕ
 first_bytes w = 16
 
 -- The receiver that a log starts with and the bytes that its first record takes; fault 13 where it starts with none.
-abbrev pub begun_as : Fresh → ℕ → Begun
+pub record Beginning : Type 0 where
+  pub fault : ℕ
+  pub took : ℕ
+  pub receiver : Receiver
+
+abbrev pub begun_as : Fresh → ℕ → Beginning
 begun_as f took = record { fault = f.fault; took = took; receiver = f.receiver }
 
-abbrev pub begun_by : List ℕ → Begun
+abbrev pub begun_by : List ℕ → Beginning
 begun_by w =
     let s = settings_at w in
     cond (is_first w) (begun_as (fresh_of s.individual s.group s.mni) (first_bytes w))
     (record { fault = 13; took = 0; receiver = new_receiver 0 0 0 })
+
+-- What is answered of it.
+abbrev pub begun : Beginning → Result Begun Fault
+begun b = cond (eqb b.fault 0) (Ok (record { took = b.took; receiver = b.receiver })) (Err Range)
 
 -- ---- The records after it, to the end or to the first that is cut.
 

@@ -1,6 +1,7 @@
 -- A run over a log that comes in parts, as a function of the unit's settings, the reports that it has heard, the part
 -- of the log and the room for its lines.
-use Rattle.std.specs.Prelude.{◌≡◌, Bool, cond, ◌&&◌, List, [], ◌∷◌, ◌++◌, ℕ, zero, suc, ◌+◌, ◌-◌, ◌≤◌, eqb, leb, length, drop}
+use Rattle.std.specs.Prelude.{◌≡◌, Bool, true, false, cond, ◌&&◌, List, [], ◌∷◌, ◌++◌, ℕ, zero, suc, ◌+◌, ◌-◌, ◌≤◌}
+use Rattle.std.specs.Prelude.{eqb, leb, length, drop}
 use Rattle.std.proofs.Math.Option.{Option, none, some}
 use Rattle.text.specs.Text.{Wrote}
 use Rattle.history.specs.Line.{Line}
@@ -18,6 +19,8 @@ use Rattle.slotlog.specs.declared.replies.Shown.{Shown}
 use Rattle.slotlog.specs.declared.replies.Shown.TheVariants.{Report, Other, Cut, Wants}
 use Rattle.slotlog.specs.declared.replies.NextReply.{NextReply}
 use Rattle.slotlog.specs.declared.run.Run.{Run}
+use Rattle.slotlog.specs.declared.run.State.{State}
+use Rattle.slotlog.specs.declared.run.State.TheVariants as state
 
 -- ---- The next record.
 
@@ -65,11 +68,11 @@ pub record Replies (before : Receiver) (rest : List ℕ) (x : NextReply) : Type 
 -- ---- Record after record.
 
 -- The state of a run after a reply, and the reply's line.
-abbrev pub state_of : Shown → ℕ
-state_of (Report frame slot a) = 0
-state_of Other = 0
-state_of Cut = 2
-state_of Wants = 1
+abbrev pub state_of : Shown → State
+state_of (Report frame slot a) = state.GoesOn
+state_of Other = state.GoesOn
+state_of Cut = state.Cut
+state_of Wants = state.Wants
 
 abbrev pub shown_line : Shown → List ℕ
 shown_line (Report frame slot a) = line_of frame slot a
@@ -83,7 +86,7 @@ pub record Stage : Type 0 where
   pub heard : Line Event
   pub read : ℕ
   pub text : List ℕ
-  pub state : ℕ
+  pub state : State
 
 -- With the next record.
 abbrev pub onward : Stage → Passed → Stage
@@ -99,10 +102,15 @@ onward x p =
 abbrev pub has_room : ℕ → ℕ → Bool
 has_room room written = leb 128 (room - written)
 
--- A run goes on in state 0, where there is room for a line.
+-- A run goes on in state `GoesOn`, where there is room for a line.
+abbrev pub goes_on : State → Bool
+goes_on state.GoesOn = true
+goes_on state.Wants = false
+goes_on state.Cut = false
+
 abbrev pub turn : Settings → List ℕ → ℕ → Stage → Stage
 turn s log room x =
-    cond (eqb x.state 0 && has_room room (length x.text))
+    cond (goes_on x.state && has_room room (length x.text))
     (onward x (passed s x.heard (drop x.read log))) x
 
 -- At most so many turns.
@@ -114,7 +122,7 @@ turns (suc k) s log room x = turns k s log room (turn s log room x)
 -- turn more.
 abbrev pub run_over : Settings → Line Event → List ℕ → ℕ → Stage
 run_over s ls log room =
-    turns (suc (length log)) s log room (record { heard = ls; read = 0; text = []; state = 0 })
+    turns (suc (length log)) s log room (record { heard = ls; read = 0; text = []; state = state.GoesOn })
 
 -- The answer of `Run::over` that says how far it came, and the output after it.
 abbrev pub run_at : Settings → Stage → Run
@@ -157,16 +165,18 @@ abbrev pub end_line : List ℕ → List ℕ
 end_line left = cond (eqb (length left) 0) [] cut_line
 
 -- After a record that is cut nothing is heard.
-abbrev pub unless_cut : {A : Type 0} → ℕ → List A → List A
-unless_cut state more = cond (eqb state 2) [] more
+abbrev pub unless_cut : {A : Type 0} → State → List A → List A
+unless_cut state.GoesOn more = more
+unless_cut state.Wants more = more
+unless_cut state.Cut more = []
 
 -- A run from `rest` to `left`, for a unit with these settings that had heard the reports `ls` and then has heard
 -- `heard`: these were the replies, and so are the replies to whatever follows.
 pub record Goes (s : Settings) (ls : Line Event) (rest : List ℕ) (said : List LogReply) (left : List ℕ)
-    (heard : Line Event) (state : ℕ) : Type 0 where
+    (heard : Line Event) (at : State) : Type 0 where
   pub replies : (more : List ℕ)
-      → replies_of s ls (entries (rest ++ more)) ≡ said ++ unless_cut state (replies_of s heard (entries (left ++ more)))
-  pub ends : state ≡ 1 → replies_of s heard (entries left) ≡ end_reply left
+      → replies_of s ls (entries (rest ++ more)) ≡ said ++ unless_cut at (replies_of s heard (entries (left ++ more)))
+  pub ends : at ≡ state.Wants → replies_of s heard (entries left) ≡ end_reply left
 
 -- What is shown of the next reply, where there is one.
 abbrev pub shown_as : Option LogReply → Shown

@@ -1,31 +1,65 @@
 // The records of a slot log.
-ghost use Rattle.std.specs.Prelude.{◌≡◌, ◌≤◌, length, take};
+ghost use Rattle.std.specs.Prelude.{◌≡◌, ◌≤◌, length, take, IfOk};
 ghost use Rattle.slotlog.specs.Room.{moved_up};
-ghost use Rattle.slotlog.specs.Log.{body_of, is_report, whole_of, next_in, is_first, begun_by};
+ghost use Rattle.slotlog.specs.Log.{kind_of, number_of, body_of, is_report, whole_of, next_in};
+ghost use Rattle.slotlog.specs.Log.{is_first, begun_by, begun};
 ghost use Rattle.receiver.specs.Reached.{Reached};
 
 use crate::room::to_start;
 use bits::least;
+use blocks::fault::Fault;
 use blocks::sizes::{SchF, SchH, SchS};
 use receiver::Receiver;
 use records::{four, two};
 
-// The kinds of a log's records.
-#[derive(Clone, Copy)]
-pub(crate) struct Kind {}
-
-impl Kind {
+// The kinds of a log's records, by their numbers.
+#[derive(Clone, Copy, PartialEq, Eq)]
+pub(crate) enum Kind {
     // The unit's settings, first in a log.
-    pub(crate) const SETTINGS: u16 = 0;
+    Settings = 0,
 
     // A slot in which nothing was heard.
-    pub(crate) const SILENCE: u16 = 1;
+    Silence = 1,
 
     // A slot with SCH/S and SCH/H.
-    pub(crate) const HEADER: u16 = 2;
+    Header = 2,
 
     // A slot with SCH/F.
-    pub(crate) const BLOCK: u16 = 3;
+    Block = 3,
+}
+
+impl Kind {
+    // The kind of a number; none where it is unknown.
+    fn of(number: u16) -> Option<Kind>
+        ensures { result ≡ kind_of number }
+    {
+        match number {
+            0 => Some(Kind::Settings),
+            1 => Some(Kind::Silence),
+            2 => Some(Kind::Header),
+            3 => Some(Kind::Block),
+            _ => None,
+        }
+    }
+
+    // The bytes of its body.
+    fn body(self) -> usize
+        ensures { result ≡ body_of (number_of self) }
+    {
+        match self {
+            Kind::Settings => 12,
+            Kind::Silence => 2,
+            Kind::Header => 2 + SchS::BYTES + SchH::BYTES,
+            Kind::Block => 2 + SchF::BYTES,
+        }
+    }
+
+    // Whether it is a kind of report.
+    fn is_report(self) -> bool
+        ensures { result ≡ is_report (number_of self) }
+    {
+        self != Kind::Settings
+    }
 }
 
 // What stands next, with the bytes that it takes: nothing; a record that runs past what is there; one that is cut
@@ -39,54 +73,20 @@ pub(crate) enum Next {
     Report(usize),
 }
 
-// The bytes of a kind's body; none where it is unknown.
-fn body_of(kind: u16) -> usize
-    ensures { result ≡ body_of kind }
-{
-    if kind == Kind::SETTINGS {
-        return 12;
-    }
-    if kind == Kind::SILENCE {
-        return 2;
-    }
-    if kind == Kind::HEADER {
-        return 2 + SchS::BYTES + SchH::BYTES;
-    }
-    if kind == Kind::BLOCK {
-        return 2 + SchF::BYTES;
-    }
-    0
-}
-
-// Whether it is a kind of report.
-fn is_report(kind: u16) -> bool
-    ensures { result ≡ is_report kind }
-{
-    if kind < Kind::SILENCE {
-        return false;
-    }
-    kind <= Kind::BLOCK
-}
-
-// A whole record with `n` bytes of body.
-fn whole(kind: u16, n: usize) -> Next
+// A whole record of the kind with this number, with `n` bytes of body.
+fn whole(number: u16, n: usize) -> Next
     requires { n ≤ 65535 }
-    ensures { result ≡ whole_of kind n }
+    ensures { result ≡ whole_of number n }
 {
-    let body = body_of(kind);
-    if n < body {
-        return Next::Cut;
+    match Kind::of(number) {
+        Some(kind) if n < kind.body() => Next::Cut,
+        Some(kind) if kind.is_report() && n == kind.body() => Next::Report(n + 4),
+        _ => Next::Other(n + 4),
     }
-    if !is_report(kind) {
-        return Next::Other(n + 4);
-    }
-    if n == body {
-        return Next::Report(n + 4);
-    }
-    Next::Other(n + 4)
 }
 
 // What stands next in the rest of a log.
+#[tactic(auto, unfolding(crate::specs::Log::next_in))]
 pub(crate) fn read(rest: &[u8]) -> Next
     ensures { result ≡ next_in rest.now }
 {
@@ -96,7 +96,7 @@ pub(crate) fn read(rest: &[u8]) -> Next
     if rest.len() < 2 {
         return Next::Part;
     }
-    let length = two(rest[0], rest[1]) as usize;
+    let length = usize::from(two(rest[0], rest[1]));
     if length < 2 {
         return Next::Cut;
     }
@@ -109,10 +109,9 @@ pub(crate) fn read(rest: &[u8]) -> Next
 // The bytes of a log that tell how it starts.
 pub const FIRST: usize = 16;
 
-// How a log starts: 0 or 13, the bytes that its first record takes, and the receiver.
+// How a log starts: the receiver, and the bytes that its first record takes.
 #[derive(Clone, Copy)]
 pub struct Begun {
-    pub fault: u8,
     pub took: usize,
     pub receiver: Receiver,
 }
@@ -121,53 +120,53 @@ pub struct Begun {
 fn is_first(log: &[u8]) -> bool
     ensures { result ≡ is_first log.now }
 {
-    if log.len() < FIRST {
-        return false;
-    }
-    if two(log[0], log[1]) != 14 {
-        return false;
-    }
-    two(log[2], log[3]) == Kind::SETTINGS
+    FIRST <= log.len() && two(log[0], log[1]) == 14 && two(log[2], log[3]) == Kind::Settings as u16
 }
 
-// The receiver with the settings that a log starts with, and the bytes that its first record takes; fault 13 where it
-// starts with none, or with settings of 2^24 or more.
-fn begin(log: &[u8]) -> Begun
-    ensures { (result ≡ begun_by log.now) × Reached result.receiver
-        × (result.took ≤ length log.now) }
+// The bytes that the first record of a log takes.
+fn first_bytes(log: &[u8]) -> usize
+    ensures bytes { result ≡ (begun_by log.now).took }
+    ensures inside { result ≤ length log.now }
 {
-    if is_first(log) {
-        let individual = four(log, 4);
-        let group = four(log, 8);
-        let mni = four(log, 12);
-        let fresh = Receiver::fresh(individual, group, mni);
-        let receiver = fresh.receiver;
-        return Begun {
-            fault: fresh.fault,
-            took: FIRST,
-            receiver,
-        };
+    if is_first(log) { FIRST } else { 0 }
+}
+
+// The receiver with the settings that a log starts with, and the bytes that its first record takes; `Range` where it
+// starts with none, or with settings of 2^24 or more.
+fn begin(log: &[u8]) -> Result<Begun, Fault>
+    ensures begun { result ≡ begun (begun_by log.now) }
+    ensures reached { IfOk result (λ b. Reached b.receiver) }
+    ensures took { IfOk result (λ b. b.took ≤ length log.now) }
+{
+    if !is_first(log) {
+        return Err(Fault::Range);
     }
-    let none = Receiver::fresh(0, 0, 0);
-    let receiver = none.receiver;
-    Begun {
-        fault: 13,
-        took: 0,
+    let fresh = Receiver::fresh(four(log, 4), four(log, 8), four(log, 12));
+    if fresh.fault != 0 {
+        return Err(Fault::Range);
+    }
+    let receiver = fresh.receiver;
+    Ok(Begun {
+        took: FIRST,
         receiver,
-    }
+    })
 }
 
 impl Begun {
     // How a log starts of which the first `have` bytes of a room are there, all of it where it has fewer; what is left
-    // of them after the first record is moved to the room's start.
-    pub fn part(room: &mut [u8], have: usize) -> Begun
-        ensures { (result ≡ begun_by (take have room.old)) × Reached result.receiver × (result.took ≤ have)
-            × (room.new ≡ moved_up have result.took room.old) }
+    // of them after the first record is moved to the room's start, also where its settings are refused.
+    pub fn part(room: &mut [u8], have: usize) -> Result<Begun, Fault>
+        ensures begun { result ≡ begun (begun_by (take have room.old)) }
+        ensures reached { IfOk result (λ b. Reached b.receiver) }
+        ensures took { IfOk result (λ b. b.took ≤ have) }
+        ensures inside { (begun_by (take have room.old)).took ≤ have }
+        ensures moved { room.new ≡ moved_up have (begun_by (take have room.old)).took room.old }
     {
         let n = least(have, room.len());
-        let b = begin(&room[..n]);
-        let took = b.took;
+        let log = &room[..n];
+        let took = first_bytes(log);
+        let begun = begin(log);
         to_start(room, took, n);
-        b
+        begun
     }
 }

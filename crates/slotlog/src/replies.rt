@@ -38,8 +38,10 @@ fn hear(r: Receiver, frame: u8, slot: u8, kind: u8, blocks: &[u8]) -> Reply
 }
 
 // A report of `n` bytes at the start of the rest.
+#[tactic(auto, using(crate::proofs::LogLaws::found))]
 fn heard(receiver: Receiver, rest: &[u8], n: usize) -> NextReply
-    requires { Reached receiver × (next_in rest.now ≡ Report n) }
+    requires reached { Reached receiver }
+    requires report { next_in rest.now ≡ Report n }
     ensures { Replies receiver rest.now result }
 {
     let frame = rest[4];
@@ -59,30 +61,15 @@ pub(crate) fn next(receiver: Receiver, rest: &[u8]) -> NextReply
     requires { Reached receiver }
     ensures { Replies receiver rest.now result }
 {
-    match read(rest) {
-        Next::Report(n) => {
-            return heard(receiver, rest, n);
-        }
-        Next::Other(n) => {
-            return NextReply {
-                receiver,
-                took: n,
-                shown: Shown::Other,
-            };
-        }
-        Next::Cut => {
-            return NextReply {
-                receiver,
-                took: 0,
-                shown: Shown::Cut,
-            };
-        }
-        Next::Part => {}
-        Next::End => {}
-    }
+    let (took, shown) = match read(rest) {
+        Next::Report(n) => return heard(receiver, rest, n),
+        Next::Other(n) => (n, Shown::Other),
+        Next::Cut => (0, Shown::Cut),
+        Next::Part | Next::End => (0, Shown::Wants),
+    };
     NextReply {
         receiver,
-        took: 0,
-        shown: Shown::Wants,
+        took,
+        shown,
     }
 }

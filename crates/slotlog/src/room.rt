@@ -7,9 +7,5 @@ pub(crate) fn to_start(room: &mut [u8], from: usize, to: usize)
     ensures { room.new
         ≡ take (to - from) (drop from room.old) ++ drop (to - from) room.old }
 {
-    let mut i = from;
-    while i < to {
-        room[i - from] = room[i];
-        i += 1;
-    }
+    room.copy_within(from..to, 0);
 }

@@ -2,6 +2,7 @@
 ghost use Rattle.std.specs.Prelude.{◌≡◌, ◌+◌, ◌≤◌, length, take};
 ghost use Rattle.receiver.specs.Reached.{Reached};
 ghost use Rattle.slotlog.specs.Room.{moved_up};
+ghost use Rattle.slotlog.specs.declared.run.State.TheVariants.{GoesOn};
 ghost use Rattle.slotlog.specs.Runs.{state_of, has_room, One, Ran};
 
 use crate::print::shown_line;
@@ -10,24 +11,36 @@ use crate::room::to_start;
 use bits::least;
 use receiver::Receiver;
 
+// The state of a run.
+#[derive(Clone, Copy, PartialEq, Eq)]
+pub enum State {
+    // It goes on with more room for its lines.
+    GoesOn,
+
+    // It wants more of the log.
+    Wants,
+
+    // A record was cut.
+    Cut,
+}
+
 // The receiver now, how many bytes of the log were read and how many of the output were written, and a state.
 #[derive(Clone, Copy)]
 pub struct Run {
     pub receiver: Receiver,
     pub read: usize,
     pub written: usize,
-    pub state: u8,
+    pub state: State,
 }
 
 // The state of a run after a reply.
-fn state_of(shown: Shown) -> u8
+fn state_of(shown: Shown) -> State
     ensures { result ≡ state_of shown }
 {
     match shown {
-        Shown::Report(_, _, _) => Run::GOES_ON,
-        Shown::Other => Run::GOES_ON,
-        Shown::Cut => Run::CUT,
-        Shown::Wants => Run::WANTS,
+        Shown::Report(_, _, _) | Shown::Other => State::GoesOn,
+        Shown::Cut => State::Cut,
+        Shown::Wants => State::Wants,
     }
 }
 
@@ -40,19 +53,12 @@ fn has_room(room: usize, written: usize) -> bool
 }
 
 impl Run {
-    // It goes on with more room for its lines.
-    pub const GOES_ON: u8 = 0;
-
-    // It wants more of the log.
-    pub const WANTS: u8 = 1;
-
-    // A record was cut.
-    pub const CUT: u8 = 2;
-
     // The next record of the rest, and its line.
     fn one(self, rest: &[u8], out: &mut [u8]) -> Run
-        requires { Reached self.receiver × (self.read + length rest.now ≤ 18446744073709551615)
-            × (self.written + 128 ≤ length out.old) × (self.state ≡ 0) }
+        requires reached { Reached self.receiver }
+        requires read { self.read + length rest.now ≤ 18446744073709551615 }
+        requires room { self.written + 128 ≤ length out.old }
+        requires goes_on { self.state ≡ GoesOn }
         ensures { One rest.now self out.old result out.new }
     {
         let x = next(self.receiver, rest);
@@ -75,11 +81,10 @@ impl Run {
             receiver,
             read: 0,
             written: 0,
-            state: Run::GOES_ON,
+            state: State::GoesOn,
         };
-        while x.state == Run::GOES_ON && has_room(out.len(), x.written) {
-            let at = x.read;
-            x = x.one(&log[at..], out);
+        while x.state == State::GoesOn && has_room(out.len(), x.written) {
+            x = x.one(&log[x.read..], out);
         }
         x
     }
@@ -88,13 +93,13 @@ impl Run {
     // of them to its start.
     pub fn part(receiver: Receiver, room: &mut [u8], have: usize, out: &mut [u8]) -> Run
         requires { Reached receiver }
-        ensures { Ran receiver (take have room.old) out.old result out.new
-            × (result.read ≤ have) × (room.new ≡ moved_up have result.read room.old) }
+        ensures ran { Ran receiver (take have room.old) out.old result out.new }
+        ensures inside { result.read ≤ have }
+        ensures moved { room.new ≡ moved_up have result.read room.old }
     {
         let n = least(have, room.len());
         let r = Run::over(receiver, &room[..n], out);
-        let read = r.read;
-        to_start(room, read, n);
+        to_start(room, r.read, n);
         r
     }
 }

@@ -1,13 +1,13 @@
 -- The laws of a message's bytes, and of a lent buffer that they are handed over to. Assumes nothing.
 use mathlib.Core.Path.{◌≡◌, refl, sym, ap, ◌∙◌}
 use mathlib.Core.Bool.{Bool, false}
-use mathlib.Core.List.{List, [], ◌∷◌, ◌++◌, append_assoc, append-nil}
+use mathlib.Core.List.{List, [], ◌∷◌, ◌++◌, append_assoc}
 use Prim.Native.Nat.{ℕ, zero, suc, ◌+◌, ◌-◌, ◌*◌, ◌/◌, ◌≤◌, ◌<◌, min}
 use native.Mathlib.Nat.{zero-add}
 use native.Mathlib.Numerals.{add-one}
 use native.Mathlib.Omega.{arith}
-use lib.ListN.{length, take, drop, get_or, set, replicate, length-append, length-drop, length-replicate, get_or-replicate}
-use lib.ListN.{take-append-drop, drop_of_length-le}
+use lib.ListN.{length, take, drop, get_or, set, replicate, length-append, length-drop, length-replicate}
+use lib.ListN.{take-append-drop}
 use lib.Seq.{take-append-add, take-take, take_at, length-take-le, paste, paste-suc}
 use Rattle.bits.specs.Bits.{num, bits_of, bytes_n, over, AllBytes}
 use Rattle.bits.proofs.Numbers.{drop_of_take}
@@ -15,7 +15,7 @@ use Rattle.bits.proofs.Bytes.{length_bits_of, bits_of_append, bits_of_take, bits
 use Rattle.bits.proofs.Bytes.{bits_of_bytes_n, bits_of_inj, bytes_append, bytes_drop}
 use Rattle.bits.proofs.Over.{length_over, over_left}
 use Rattle.store.specs.Store.{store_of, joined_to, message_bytes, handed, first_over}
-use Rattle.store.proofs.Stores.{padded, bits_store, take_replicate, store_nothing}
+use Rattle.store.proofs.Stores.{padded, bits_store, take_replicate}
 
 pub length_message : (m : List Bool) → length (message_bytes m) ≡ (length m + 7) / 8
 unfolding message_bytes
@@ -51,7 +51,8 @@ pub message_filled : (m : List Bool)
 unfolding message_bytes
 message_filled m =
     let q = (length m + 7) / 8 in
-    sym (bytes_of_take q (m ++ replicate 7 false)) ∙ ap (bytes_n q) (take_padded m (8 * q) 7 (omega arith) (omega arith))
+    sym (bytes_of_take q (m ++ replicate 7 false))
+    ∙ ap (bytes_n q) (take_padded m (8 * q) 7 (omega arith) (omega arith))
 
 -- a buffer that a message was handed to is as long as it was, and begins with the message's bits
 pub length_handed : (m : List Bool) (old : List ℕ) → length m ≤ 8 * length old → length (handed m old) ≡ length old
@@ -92,19 +93,6 @@ paste_more old s i ho hs =
     (ap (λ (k : ℕ). set (paste old 0 s i) k (get_or s i 0)) (sym (zero-add i))
     ∙ paste-suc old 0 s i 0 (rw (zero-add i) ho) hs)
 
--- a turn of the loop that wipes, and its end
-pub wipe_more : (old : List ℕ) (i : ℕ) → i < length old → i < 512
-    → set (paste old 0 (replicate 512 0) i) i 0 ≡ paste old 0 (replicate 512 0) (i + 1)
-wipe_more old i h k =
-    ap (set (paste old 0 (replicate 512 0) i) i) (sym (get_or-replicate 512 i 0 0 k))
-    ∙ paste_more old (replicate 512 0) i h (omega (arith, length-replicate {A = ℕ} 512 0))
-
-pub wipe_end : (old : List ℕ) → length old ≡ 512 → paste old 0 (replicate 512 0) 512 ≡ store_of []
-wipe_end old h =
-    let zeros : List ℕ = replicate 512 0 in
-    ap (λ (x : List ℕ). zeros ++ x) (drop_of_length-le old {i = 512} (omega arith)) ∙ append-nil zeros
-    ∙ sym store_nothing
-
 -- the bits that a store holds, copied to a buffer's start, are handed over
 pub handed_first : (m : List Bool) (old : List ℕ) → length m ≤ 4096
     → first_over (length m) (store_of m) old ≡ handed m old
@@ -124,7 +112,8 @@ take_over t at m l h k =
 
 -- the bits of a buffer with the first bits of a store at its start
 bits_first : (k : ℕ) (store old : List ℕ)
-    → bits_of (first_over k store old) ≡ take (8 * ((k + 7) / 8)) (bits_of store) ++ drop (8 * ((k + 7) / 8)) (bits_of old)
+    → bits_of (first_over k store old)
+    ≡ take (8 * ((k + 7) / 8)) (bits_of store) ++ drop (8 * ((k + 7) / 8)) (bits_of old)
 bits_first k store old =
     let q = (k + 7) / 8 in
     rw (bits_of_append (take q store) (drop q old), bits_of_take q store, bits_of_drop q old) refl

@@ -100,6 +100,7 @@ joined_is old new at m hn l h e =
     (length_over at m (bits_of old) (omega (arith, length_bits_of old)) ∙ omega (arith, length_bits_of old)) e
 
 -- bits put in after those that a store holds are held too
-pub store_join : (b m : List Bool) → length b + length m ≤ 4096 → joined_to (store_of b) (length b) m ≡ store_of (b ++ m)
+pub store_join : (b m : List Bool) → length b + length m ≤ 4096
+    → joined_to (store_of b) (length b) m ≡ store_of (b ++ m)
 unfolding joined_to store_of
 store_join b m h = ap (bytes_n 512) (rw (bits_store b (omega arith)) (join_bits b m h))

@@ -1,5 +1,6 @@
 -- A store of 512 bytes that holds a run of bits, zero beyond them; and the bytes of a message that is handed over.
-use Rattle.std.specs.Prelude.{Bool, false, ◌&&◌, List, [], ◌∷◌, ◌++◌, ℕ, ◌+◌, ◌-◌, ◌/◌, eqb, length, take, drop, replicate}
+use Rattle.std.specs.Prelude.{Bool, false, ◌&&◌, List, [], ◌∷◌, ◌++◌, ℕ, ◌+◌, ◌-◌, ◌/◌, eqb}
+use Rattle.std.specs.Prelude.{length, take, drop, replicate}
 use Rattle.bits.specs.Bits.{num, bits_of, bytes_n, over}
 use Rattle.store.specs.declared.Raw.{Raw}
 

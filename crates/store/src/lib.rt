@@ -1,5 +1,8 @@
 // The store of an assembly, 512 bytes: what goes into it and out of it; and SCH/H but for its countdown, as two
 // numbers.
+// Kept: a run of bits is three arguments, `s`, `from` and `n`, as `bits::copy` takes them. What a report brings has the
+// two numbers already, and its bytes are lent apart: a struct of the three would be made at each call, which is no
+// plainer.
 #![tactic(auto)]
 
 ghost use Rattle.std.specs.Prelude.{◌≡◌, [], ◌+◌, ◌≤◌, length, take, drop};
@@ -8,13 +11,14 @@ ghost use Rattle.store.specs.Store.{store_of, joined_to, first_over, without, sa
 
 // A block of 16 bytes as two numbers: its first 64 bits and the others.
 #[repr(C)]
-#[derive(Clone, Copy)]
+#[derive(Clone, Copy, PartialEq, Eq, Default)]
 pub struct Raw {
     pub high: u64,
     pub low: u64,
 }
 
 // A store that holds nothing.
+#[tactic(auto, using(crate::proofs::Stores::store_nothing))]
 pub fn nothing() -> [u8; 512]
     ensures { result ≡ store_of [] }
 {
@@ -22,8 +26,12 @@ pub fn nothing() -> [u8; 512]
 }
 
 // Puts `n` bits of `s`, from bit `from` on, into a lent store, after the `at` bits that it holds.
+// Kept: a slice with its length in the contract, for the proof over `&mut [u8; 512]` did not close: of a lent array the
+// check knows after a call its length alone, and that each of its numbers is below 256 stood open.
 pub fn join(store: &mut [u8], at: usize, s: &[u8], from: usize, n: usize)
-    requires { Inside (length s.now) from (from + n) × (at + n ≤ 4096) × (length store.old ≡ 512) }
+    requires inside { Inside (length s.now) from (from + n) }
+    requires room { at + n ≤ 4096 }
+    requires whole { length store.old ≡ 512 }
     ensures { store.new
         ≡ joined_to store.old at (take n (drop from (bits_of s.now))) }
 {
@@ -31,34 +39,35 @@ pub fn join(store: &mut [u8], at: usize, s: &[u8], from: usize, n: usize)
 }
 
 // Makes a lent store hold nothing.
-pub fn wipe(store: &mut [u8])
-    requires { length store.old ≡ 512 }
+#[tactic(auto, using(crate::proofs::Stores::store_nothing))]
+pub fn wipe(store: &mut [u8; 512])
     ensures { store.new ≡ store_of [] }
 {
-    let mut i = 0;
-    while i < 512 {
-        store[i] = 0;
-        i += 1;
-    }
+    store.fill(0);
 }
 
 // Hands the `n` bits that a store holds over: to the message's start.
-fn hand_over(store: &[u8], n: usize, message: &mut [u8])
-    requires { (n ≤ 4096) × (length store.now ≡ 512) × (512 ≤ length message.old) }
+fn hand_over(store: &[u8; 512], n: usize, message: &mut [u8])
+    requires few { n ≤ 4096 }
+    requires long { 512 ≤ length message.old }
     ensures { message.new ≡ first_over n store.now message.old }
 {
     let whole = (n + 7) / 8;
-    let mut i = 0;
-    while i < whole {
-        message[i] = store[i];
-        i += 1;
-    }
+    message[..whole].copy_from_slice(&store[..whole]);
 }
 
 // Hands the `at` bits that a store holds over, and `n` bits of `s`, from bit `from` on, after them.
-pub fn hand_joined(store: &[u8], at: usize, s: &[u8], from: usize, n: usize, message: &mut [u8])
-    requires { Inside (length s.now) from (from + n) × (at + n ≤ 4096) × (length store.now ≡ 512)
-        × (512 ≤ length message.old) }
+pub fn hand_joined(
+    store: &[u8; 512],
+    at: usize,
+    s: &[u8],
+    from: usize,
+    n: usize,
+    message: &mut [u8],
+)
+    requires inside { Inside (length s.now) from (from + n) }
+    requires room { at + n ≤ 4096 }
+    requires long { 512 ≤ length message.old }
     ensures { message.new
         ≡ first_over (at + n) (joined_to store.now at (take n (drop from (bits_of s.now))))
         message.old }
@@ -69,7 +78,9 @@ pub fn hand_joined(store: &[u8], at: usize, s: &[u8], from: usize, n: usize, mes
 
 // Hands `n` bits of `s`, from bit `from` on, over: what a store that held nothing would hold after them.
 pub fn hand_block(s: &[u8], from: usize, n: usize, message: &mut [u8])
-    requires { Inside (length s.now) from (from + n) × (n ≤ 4096) × (512 ≤ length message.old) }
+    requires inside { Inside (length s.now) from (from + n) }
+    requires few { n ≤ 4096 }
+    requires long { 512 ≤ length message.old }
     ensures { message.new
         ≡ first_over n (joined_to (store_of []) 0 (take n (drop from (bits_of s.now))))
         message.old }
@@ -83,8 +94,8 @@ pub fn without_two(h: &[u8], at: usize) -> Raw
     requires { (length h.now ≡ 16) × (6 ≤ at) × (at ≤ 56) }
     ensures { result ≡ without at h.now }
 {
-    let high = (bits::get(h, 0, at) << (64 - at)) | bits::get(h, at + 2, 62 - at);
-    let low = (bits::get(h, 64, 32) << 32) | bits::get(h, 96, 32);
+    let high = (bits::get::<u64>(h, 0, at) << (64 - at)) | bits::get::<u64>(h, at + 2, 62 - at);
+    let low = (bits::get::<u64>(h, 64, 32) << 32) | bits::get::<u64>(h, 96, 32);
     Raw { high, low }
 }
 
@@ -92,8 +103,5 @@ pub fn without_two(h: &[u8], at: usize) -> Raw
 pub fn same(a: Raw, b: Raw) -> bool
     ensures { result ≡ same_raw a b }
 {
-    if a.high != b.high {
-        return false;
-    }
-    a.low == b.low
+    a == b
 }

@@ -5,7 +5,7 @@ use Prim.Native.Nat.{ℕ, ◌+◌, ◌/◌, ◌%◌, ◌<◌}
 use native.Mathlib.Numerals.{add-one}
 use native.Mathlib.Omega.{arith}
 use lib.ListN.{length, take, get_or, set}
-use lib.Seq.{take-suc, take-length}
+use lib.Seq.{take-suc}
 use Rattle.text.specs.Text.{Wrote, decimal_of, spaced, hex_digit, hex_of}
 use Rattle.text.proofs.Writing.{wrote_none, wrote_more, wrote_both}
 
@@ -70,19 +70,11 @@ wrote_byte old at s i {new} {next} h g w =
     (wrote_more old at r (hex_digit (x / 16)) w (omega arith)) g in
     rw (hex_of_next s i h) (record { bytes = m.bytes; after = omega (arith, m.after) })
 
--- none yet, and all of them
+-- none yet
 pub spaced_none : (old : List ℕ) (at : ℕ) → Wrote old at (spaced []) old at
 unfolding spaced
 spaced_none old at = wrote_none old at
 
-pub wrote_numbers : (old : List ℕ) (at : ℕ) (ns : List ℕ) (i : ℕ) {new : List ℕ} {next : ℕ} → i ≡ length ns
-    → Wrote old at (spaced (take i ns)) new next → Wrote old at (spaced ns) new next
-wrote_numbers old at ns i e w = let t : take i ns ≡ ns = rw e (take-length ns) in rw t at w
-
 pub hex_none : (old : List ℕ) (at : ℕ) → Wrote old at (hex_of []) old at
 unfolding hex_of
 hex_none old at = wrote_none old at
-
-pub wrote_hex : (old : List ℕ) (at : ℕ) (s : List ℕ) (i : ℕ) {new : List ℕ} {next : ℕ} → i ≡ length s
-    → Wrote old at (hex_of (take i s)) new next → Wrote old at (hex_of s) new next
-wrote_hex old at s i e w = let t : take i s ≡ s = rw e (take-length s) in rw t at w

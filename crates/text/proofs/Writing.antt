@@ -1,12 +1,12 @@
 -- The laws of writing at a place. Assumes nothing.
 use mathlib.Core.Path.{◌≡◌, refl, sym, ◌∙◌}
 use mathlib.Core.List.{List, [], ◌∷◌, ◌++◌, append_assoc}
-use Prim.Native.Nat.{ℕ, suc, ◌+◌, ◌≤◌, ◌<◌}
+use Prim.Native.Nat.{ℕ, suc, ◌+◌, ◌-◌, ◌≤◌, ◌<◌}
 use native.Mathlib.Nat.{add-zero}
-use native.Mathlib.Numerals.{add-one}
 use native.Mathlib.Omega.{arith}
 use lib.ListN.{length, take, drop, get_or, set, length-append, length-take, length-drop, take-append-drop}
-use lib.Seq.{drop-cons, set_at, take_at, drop_at, drop-drop, take-suc, take-length}
+use lib.Seq.{drop-cons, set_at, take_at, drop_at, drop-drop}
+use borrow.Rule.Slice.PartMut.{put_mid}
 use Rattle.text.specs.Text.{written, Wrote}
 
 length_written : (at : ℕ) (run old : List ℕ) → at + length run ≤ length old → length (written at run old) ≡ length old
@@ -89,18 +89,10 @@ pub wrote_length : (old : List ℕ) (at : ℕ) (run : List ℕ) {new : List ℕ}
     → at + length run ≤ length old → length new ≡ length old
 wrote_length old at run w h = rw w.bytes (length_written at run old h)
 
--- one byte more of a list that is copied
-pub wrote_next : (old : List ℕ) (at : ℕ) (s : List ℕ) (i : ℕ) {new : List ℕ} → i < length s → at + i < length old
-    → Wrote old at (take i s) new (at + i)
-    → Wrote old at (take (i + 1) s) (set new (at + i) (get_or s i 0)) (at + (i + 1))
-wrote_next old at s i h g w =
-    let m = wrote_more old at (take i s) (get_or s i 0) w g in
-    record {
-      bytes = m.bytes ∙ rw (add-one i, take-suc s i 0 h) refl;
-      after = rw (add-one i, take-suc s i 0 h) (omega (arith, m.after));
-    }
-
--- and all of it
-pub wrote_all : (old : List ℕ) (at : ℕ) (s : List ℕ) (i : ℕ) {new : List ℕ} → i ≡ length s
-    → Wrote old at (take i s) new (at + i) → Wrote old at s new (at + i)
-wrote_all old at s i e w = let t : take i s ≡ s = rw e (take-length s) in rw t at w
+-- a run that a part of the bytes was made a copy of
+pub wrote_part : (old : List ℕ) (at : ℕ) (run : List ℕ) {new : List ℕ} {end : ℕ}
+    → new ≡ put_mid at (end - at) old run → end ≡ at + length run → Wrote old at run new end
+unfolding written
+wrote_part old at run {new} {end} e f =
+    let same : end - at ≡ length run = omega arith in
+    record { bytes = e ∙ rw (same, drop-drop (length run) at old) refl; after = f }

@@ -1,5 +1,7 @@
 // Text in ASCII, written at a place of lent bytes: each function answers the place after what it wrote, and leaves
 // every other byte.
+// Kept: `out` and `at` side by side, and no struct of both, since docs/PROMISES.md has each call and its `Wrote` by
+// these names, and `lines` and `slotlog` write bytes of their own at the places between.
 #![tactic(auto)]
 
 ghost use Rattle.std.specs.Prelude.{◌+◌, ◌*◌, ◌≤◌, ◌<◌, ◌≡◌, length};
@@ -12,11 +14,11 @@ pub fn decimal(out: &mut [u8], at: usize, n: u64) -> usize
     ensures { Wrote out.old at (decimal_of n) out.new result }
 {
     if n < 10 {
-        out[at] = 48 + (n as u8);
+        out[at] = b'0' + n as u8;
         return at + 1;
     }
     let next = decimal(out, at, n / 10);
-    out[next] = 48 + ((n % 10) as u8);
+    out[next] = b'0' + (n % 10) as u8;
     next + 1
 }
 
@@ -25,12 +27,9 @@ pub fn copy(out: &mut [u8], at: usize, s: &[u8]) -> usize
     requires { at + length s.now ≤ length out.old }
     ensures { Wrote out.old at s.now out.new result }
 {
-    let mut i = 0;
-    while i < s.len() {
-        out[at + i] = s[i];
-        i += 1;
-    }
-    at + i
+    let end = at + s.len();
+    out[at..end].copy_from_slice(s);
+    end
 }
 
 // Numbers in decimal, a space before each.
@@ -40,11 +39,9 @@ pub fn numbers(out: &mut [u8], at: usize, ns: &[u64]) -> usize
         × (result ≤ at + 21 * length ns.now) }
 {
     let mut next = at;
-    let mut i = 0;
-    while i < ns.len() {
+    for n in ns {
         out[next] = b' ';
-        next = decimal(out, next + 1, ns[i]);
-        i += 1;
+        next = decimal(out, next + 1, *n);
     }
     next
 }
@@ -53,7 +50,7 @@ fn hex_digit(d: u8) -> u8
     requires { d < 16 }
     ensures { result ≡ Text·hexDigit d }
 {
-    if d < 10 { 48 + d } else { 87 + d }
+    if d < 10 { b'0' + d } else { b'a' + (d - 10) }
 }
 
 // Two hexadecimal digits for each byte of `s`.
@@ -63,13 +60,10 @@ pub fn hex(out: &mut [u8], at: usize, s: &[u8]) -> usize
         × (result ≡ at + 2 * length s.now) }
 {
     let mut next = at;
-    let mut i = 0;
-    while i < s.len() {
-        let b = s[i];
-        out[next] = hex_digit(b / 16);
-        out[next + 1] = hex_digit(b % 16);
+    for b in s {
+        out[next] = hex_digit(*b / 16);
+        out[next + 1] = hex_digit(*b % 16);
         next += 2;
-        i += 1;
     }
     next
 }

@@ -1,48 +1,35 @@
 -- Before each turn the slots up to the header in turn are filled, and no others.
-use mathlib.Core.Path.{◌≡◌, refl}
+use mathlib.Core.Path.{◌≡◌}
 use Prim.Native.Nat.{suc, ◌+◌, ◌*◌, ◌-◌}
 use native.Mathlib.Omega.{arith}
 use Rattle.answering.proofs.FillingLaws.{next_header, without_end, with_end}
 use Rattle.answering.proofs.slots_from.Goals as goal
-
-pub loop-i-init : goal.loop-i-init
-loop-i-init c =
-    let over = c.args.over in
-    let z : over - over ≡ 0 = omega arith in
-    (rw z refl, omega arith, omega (arith, c.requires))
-
-pub bounds-slots-at : goal.bounds-slots-at
-bounds-slots-at c = omega (arith, c.requires)
 
 pub loop-i-preserved : goal.loop-i-preserved
 loop-i-preserved c =
     let l = c.loop-i in
     let a = c.args in
     let p = c.requires in (
-      rw (c.header_at.ensures, l.invariant.0)
-          (next_header a.x a.k a.m a.over p.1 p.2 p.0 l.i l.invariant.1 (omega arith)),
-      omega arith,
+      rw (c.from.ensures, c.header_at.ensures, l.invariant.0)
+          (next_header a.x a.k a.m a.over p.frames.0 p.frames.1 p.over l.i (omega arith) (omega arith)),
       omega arith,
     )
 
-pub returns-then-not-told : goal.returns-then-not-told
-returns-then-not-told c =
-    let l = c.loop-i in
-    let a = c.args in
-    let p = c.requires in
-    let e : l.i ≡ 2 * a.m = omega arith in
-    rw (l.invariant.0, e, c.if-not-told.true)
-    (without_end a.x a.k a.m a.over p.1 p.2 p.0)
-
-pub bounds-slots-at-2 : goal.bounds-slots-at-2
-bounds-slots-at-2 c = omega (arith, c.requires)
-
-pub returns : goal.returns
-returns c =
+pub returns-then-told : goal.returns-then-told
+returns-then-told c =
     let l = c.loop-i in
     let a = c.args in
     let p = c.requires in
     let e : l.i ≡ 2 * a.m = omega arith in
     let n : suc (a.k + a.m - 1) ≡ a.k + a.m = omega (arith, p) in
-    rw (c.end_after.ensures, n, l.invariant.0, e, c.if-not-told.false)
-    (with_end a.x a.k a.m a.over p.1 p.2 p.0)
+    rw (c.from-then-told.ensures, c.end_after.ensures, n, l.invariant.0, e, c.if-told.true)
+    (with_end a.x a.k a.m a.over p.frames.0 p.frames.1 p.over)
+
+pub returns-else-told : goal.returns-else-told
+returns-else-told c =
+    let l = c.loop-i in
+    let a = c.args in
+    let p = c.requires in
+    let e : l.i ≡ 2 * a.m = omega arith in
+    rw (l.invariant.0, e, c.if-told.false)
+    (without_end a.x a.k a.m a.over p.frames.0 p.frames.1 p.over)

@@ -8,7 +8,4 @@ use Rattle.answering.proofs.slots_from.Given as goal
 
 abbrev pub invariant-loop-i : goal.invariant-loop-i
 invariant-loop-i l =
-    (l.slots ≡ filled_to (l.i - l.over) (drop l.over (headers l.x l.k l.m))) × (l.over ≤ l.i) × (l.i ≤ 2 * l.m)
-
-abbrev pub decreases-loop-i : goal.decreases-loop-i
-decreases-loop-i l = 2 * l.m - l.i
+    (l.slots ≡ filled_to (l.i - l.over) (drop l.over (headers l.x l.k l.m))) × (l.i ≤ 2 * l.m)

@@ -12,12 +12,6 @@ pub returns-then-w-eq0 : goal.returns-then-w-eq0
 unfolding num
 returns-then-w-eq0 t c = record { is = rw c.if-w-eq0.true refl; small = pow_pos c.args.w }
 
-pub get_few-requires : goal.get_few-requires
-get_few-requires t c = let m = c.requires.0 in (omega arith, (omega arith, omega arith))
-
-pub get_in_byte-requires : goal.get_in_byte-requires
-get_in_byte-requires t c = (omega arith, omega arith)
-
 pub returns : goal.returns
 returns t c =
     let a = c.args in

@@ -4,20 +4,19 @@ use Prim.Native.Nat.{ℕ, ◌+◌, ◌-◌, ◌*◌, ◌/◌, ◌%◌, ◌^◌}
 use native.Mathlib.Nat.{sub-zero}
 use native.Mathlib.Omega.{arith}
 use lib.Bits.{bit_and, and_mask}
-use lib.Count.{trailing_le}
-use lib.ListN.{length, get_or}
+use lib.ListN.{length}
 use lib.Seq.{slice, slice_empty}
 use Rattle.bits.specs.Bits.{bits_of, Inside}
 use Rattle.bits.specs.Fill.{strip, found_at}
-use Rattle.bits.specs.declared.Found.{Found}
-use Rattle.bits.specs.declared.Found.TheVariants.{At}
+use Rattle.std.specs.Prelude.{Option}
+use Rattle.std.proofs.Common.{rules}
 use Rattle.bits.proofs.Bytes.{length_bits_of}
 use Rattle.bits.proofs.Searching.{Turn, turn, Within, last_within}
 use Rattle.bits.proofs.+last_one.Goals as goal
-use Rattle.bits.proofs.+last_one.Goals.{In-At, In-loop-i}
+use Rattle.bits.proofs.+last_one.Goals.{In-loop-i}
 
 -- what the room from the byte's first bit on says of the room from bit `from` on
-own : (s : List ℕ) (from to : ℕ) (r : Found) → Inside (length s) from to
+own : (s : List ℕ) (from to : ℕ) (r : Option ℕ) → Inside (length s) from to
     → r ≡ found_at (from - bit_and from 7) (strip (slice (from - bit_and from 7) to (bits_of s)))
     → Within from r (found_at from (strip (slice from to (bits_of s))))
 own s from to r i e =
@@ -25,47 +24,28 @@ own s from to r i e =
     (last_within (bits_of s) (from - bit_and from 7) from to (omega (arith, and_mask from 3)) (omega arith)
     (omega (arith, length_bits_of s)))
 
-pub overflow_sub-from : goal.overflow_sub-from
-overflow_sub-from t c = omega (arith, and_mask c.args.from 3)
-
-pub last_one-requires : goal.last_one-requires
-last_one-requires t c =
-    let m = c.requires in omega (arith, and_mask c.args.from 3)
-
-pub returns-in_default : goal.returns-in_default
-returns-in_default t c =
-    let r = c.last_one in
-    rw c.in_default.is
-    at (own c.args.s.now c.args.from c.args.to r.result c.requires r.ensures)
-
--- where it has found a 1
-found : (t : ℕ) (c : In-At t)
-    → (let a = c.args in
-    Within a.from (At c.in-At.at)
-    (found_at a.from (strip (slice a.from a.to (bits_of a.s.now)))))
-found t c =
-    let r = c.last_one in
-    rw c.in-At.is
-    at (own c.args.s.now c.args.from c.args.to r.result c.requires r.ensures)
+pub returns-in_err-at : goal.returns-in_err-at
+returns-in_err-at t c =
+    let w = own c.args.s.now c.args.from c.args.to c.last_one.result c.requires c.last_one.ensures in
+    let e = rw c.in_err-at.was at w in
+    search (rules, e)
 
 pub returns-then-at-from : goal.returns-then-at-from
-returns-then-at-from t c = (found t (goal.at.returns-then-at-from t c).In-At).0 (omega arith)
+returns-then-at-from t c =
+    let w = own c.args.s.now c.args.from c.args.to c.last_one.result c.requires c.last_one.ensures in
+    (rw c.in_ok-at.was at w).0 (omega arith)
 
 pub returns-then-before-ne0 : goal.returns-then-before-ne0
-returns-then-before-ne0 t c = (found t (goal.at.returns-then-before-ne0 t c).In-At).1 (omega arith)
+returns-then-before-ne0 t c =
+    let w = own c.args.s.now c.args.from c.args.to c.last_one.result c.requires c.last_one.ensures in
+    (rw c.in_ok-at.was at w).1 (omega arith)
 
 pub loop-i-init : goal.loop-i-init
 unfolding strip
 loop-i-init t c =
     let a = c.args in
     let e : 8 * ((a.to + 7) / 8) - ((a.to + 7) / 8 * 8 % 2 ^ 64 - a.to) ≡ a.to = omega arith in
-    (omega arith, omega arith, omega arith, rw (e, slice_empty a.to (bits_of a.s.now)) refl)
-
-pub overflow_cast-result : goal.overflow_cast-result
-overflow_cast-result t c =
-    let l = c.loop-i in
-    let a = c.args in
-    omega (arith, trailing_le 8 (get_or a.s.now (l.i - 1) 0 / 2 ^ l.after))
+    (omega arith, omega arith, rw (e, slice_empty a.to (bits_of a.s.now)) refl)
 
 -- a turn of the loop
 turned : (t : ℕ) (c : In-loop-i t)
@@ -77,7 +57,7 @@ turned t c =
     let l = c.loop-i in
     let m = and_mask a.from 3 in
     turn a.s.now a.from a.to l.i (l.i - 1) l.after (omega arith) (omega arith) (omega arith)
-    (omega arith) l.invariant.2 (omega (arith, c.type_inv.s (l.i - 1))) l.invariant.3
+    (omega arith) l.invariant.1 (omega (arith, c.type_inv.s (l.i - 1))) l.invariant.2
 
 pub overflow_sub-result-then-byte-ne0 : goal.overflow_sub-result-then-byte-ne0
 overflow_sub-result-then-byte-ne0 t c =
@@ -93,7 +73,7 @@ pub loop-i-preserved : goal.loop-i-preserved
 loop-i-preserved t c =
     let i = c.loop-i.i in
     let z = (turned t (goal.at.loop-i-preserved t c).In-loop-i).more (omega arith) in
-    (omega arith, omega arith, omega arith, rw (sub-zero (8 * (i - 1))) z)
+    (omega arith, omega arith, rw (sub-zero (8 * (i - 1))) z)
 
 pub returns : goal.returns
 unfolding found_at
@@ -102,4 +82,4 @@ returns t c =
     let l = c.loop-i in
     let m = and_mask a.from 3 in
     let e : 8 * l.i - l.after ≡ a.from = omega arith in
-    rw (rw e at l.invariant.3) refl
+    rw (rw e at l.invariant.2) refl

@@ -1,6 +1,6 @@
 use mathlib.Core.Path.{◌≡◌}
 use mathlib.Core.Option.{none}
-use Prim.Native.Nat.{◌+◌, ◌-◌, ◌*◌, ◌≤◌}
+use Prim.Native.Nat.{◌-◌, ◌*◌, ◌≤◌}
 use lib.Seq.{slice}
 use Rattle.bits.specs.Bits.{bits_of}
 use Rattle.bits.specs.Fill.{strip}
@@ -11,7 +11,5 @@ decreases-last_one l = l.from
 
 abbrev pub invariant-loop-i : goal.invariant-loop-i
 invariant-loop-i l =
-    (l.first ≤ l.i) × (8 * l.i ≤ l.to + 7) × (l.after ≡ 8 * l.i - l.to) × (strip (slice (8 * l.i - l.after) l.to (bits_of l.s)) ≡ none)
-
-abbrev pub decreases-loop-i : goal.decreases-loop-i
-decreases-loop-i l = l.i
+    (l.first ≤ l.i) × (l.after ≡ 8 * l.i - l.to)
+    × (strip (slice (8 * l.i - l.after) l.to (bits_of l.s)) ≡ none)

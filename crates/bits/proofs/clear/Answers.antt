@@ -1,33 +1,35 @@
-use mathlib.Core.Path.{◌≡◌, refl, sym, ◌∙◌}
+use mathlib.Core.Path.{◌≡◌, sym, ◌∙◌}
 use native.Mathlib.Nat.{sub_self}
 use native.Mathlib.Omega.{arith}
-use lib.Pow.{pow_pos}
-use Rattle.bits.specs.Bits.{bits_of}
+use Rattle.bits.specs.Bits.{bits_of, over}
+use lib.ListN.{replicate}
+use mathlib.Core.Bool.{false}
+use Prim.Native.Nat.{◌+◌, ◌-◌}
 use Rattle.bits.proofs.Bytes.{length_bits_of}
 use Rattle.bits.proofs.Over.{over_nil}
 use Rattle.bits.proofs.Filling.{clear_more}
 use Rattle.bits.proofs.clear.Goals as goal
+use Rattle.bits.proofs.clear.Goals.{After-put}
 
 pub loop-i-init : goal.loop-i-init
-loop-i-init c = (omega arith, omega arith, refl, rw (sub_self c.args.from) (sym (over_nil _ _)))
+loop-i-init c = (omega arith, rw (sub_self c.args.from) (sym (over_nil _ _)))
 
-pub put-requires : goal.put-requires
-put-requires c = (omega arith, omega arith, pow_pos _)
+-- what a turn leaves
+turned : (c : After-put) → bits_of c.put.new.out
+    ≡ over c.args.from (replicate (c.loop-i.i + c.min-w.result - c.args.from) false) (bits_of c.args.out.now)
+turned c =
+    let a = c.args in
+    let l = c.loop-i in
+    c.put.ensures
+    ∙ rw l.invariant.1
+    (clear_more a.from l.i c.min-w.result (bits_of a.out.now) (omega arith) (omega (arith, length_bits_of a.out.now)))
 
 pub loop-i-preserved : goal.loop-i-preserved
 loop-i-preserved c =
-    let a = c.args in
-    let l = c.loop-i in (
-      omega arith,
-      omega arith,
-      omega arith,
-      c.put.ensures
-          ∙ rw l.invariant.3
-          (clear_more a.from l.i c.least-w.result (bits_of a.out.now)
-          (omega arith) (omega (arith, length_bits_of a.out.now))),
-    )
+    let w : c.min-w.result ≡ 56 = omega arith in
+    (omega arith, rw w at (turned (goal.at.loop-i-preserved c).After-put))
 
-pub returns : goal.returns
-returns c =
-    let e : c.loop-i.i ≡ c.args.to = omega arith in
-    rw e at c.loop-i.invariant.3
+pub returns-2 : goal.returns-2
+returns-2 c =
+    let e : c.loop-i.i + c.min-w.result ≡ c.args.to = omega arith in
+    rw e at (turned (goal.at.returns-2 c).After-put)

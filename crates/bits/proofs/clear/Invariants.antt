@@ -1,14 +1,10 @@
 use mathlib.Core.Path.{◌≡◌}
 use mathlib.Core.Bool.{false}
 use Prim.Native.Nat.{◌-◌, ◌≤◌}
-use lib.ListN.{length, replicate}
+use lib.ListN.{replicate}
 use Rattle.bits.specs.Bits.{bits_of, over}
 use Rattle.bits.proofs.clear.Given as goal
 
 abbrev pub invariant-loop-i : goal.invariant-loop-i
 invariant-loop-i l =
-    (l.from ≤ l.i) × (l.i ≤ l.to) × (length l.out ≡ length l.initial.out)
-    × (bits_of l.out ≡ over l.from (replicate (l.i - l.from) false) (bits_of l.initial.out))
-
-abbrev pub decreases-loop-i : goal.decreases-loop-i
-decreases-loop-i l = l.to - l.i
+    (l.i ≤ l.to) × (bits_of l.out ≡ over l.from (replicate (l.i - l.from) false) (bits_of l.initial.out))

@@ -1,12 +1,10 @@
 use mathlib.Core.Path.{◌≡◌}
-use Prim.Native.Nat.{◌-◌, ◌≤◌}
-use lib.ListN.{length, take, drop}
+use Prim.Native.Nat.{◌≤◌}
+use lib.ListN.{take, drop}
 use Rattle.bits.specs.Bits.{bits_of, over}
 use Rattle.bits.proofs.copy.Given as goal
 
 abbrev pub invariant-loop-i : goal.invariant-loop-i
 invariant-loop-i l =
-    (l.i ≤ l.n) × (length l.dst ≡ length l.initial.dst) × (bits_of l.dst ≡ over l.to (take l.i (drop l.from (bits_of l.src))) (bits_of l.initial.dst))
-
-abbrev pub decreases-loop-i : goal.decreases-loop-i
-decreases-loop-i l = l.n - l.i
+    (l.i ≤ l.n)
+    × (bits_of l.dst ≡ over l.to (take l.i (drop l.from (bits_of l.src))) (bits_of l.initial.dst))

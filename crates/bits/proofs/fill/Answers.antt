@@ -12,13 +12,13 @@ use Rattle.bits.proofs.fill.Goals as goal
 
 pub put-requires : goal.put-requires
 put-requires c =
-    let w = c.least-w.result in
+    let w = c.min-w.result in
     (omega arith, omega arith, rw (ones_of (w - 1) (omega arith)) (pow-lt {i = w - 1} {j = w} (omega arith)))
 
 pub returns-then-from-to : goal.returns-then-from-to
 returns-then-from-to c =
     let a = c.args in
-    let w = c.least-w.result in
+    let w = c.min-w.result in
     c.clear.ensures
     ∙ rw (c.put.ensures, ones_of (w - 1) (omega arith))
     (fill_end a.from a.to w (w - 1) (bits_of a.out.now) (omega arith) (omega arith)

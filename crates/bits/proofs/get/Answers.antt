@@ -1,20 +1,6 @@
-use mathlib.Core.Path.{◌≡◌}
-use Prim.Native.Nat.{◌+◌, ◌-◌, ◌*◌, ◌%◌, ◌^◌}
-use native.Mathlib.Nat.{mod-lt}
-use native.Mathlib.Omega.{arith}
-use lib.Pow.{pow_pos}
-use Rattle.bits.proofs.Bytes.{get_field}
+use Rattle.bits.proofs.Numbers.{fits_in}
+use borrow.Author.Rules.{rules}
 use Rattle.bits.proofs.get.Goals as goal
 
-pub returns : goal.returns
-returns c =
-    let a = c.args in
-    let f = c.least-first.result in
-    let e : f * 8 % 2 ^ 64 + 64 - (a.at + a.w) ≡ 8 * (f + 8) - (a.at + a.w) = omega arith in
-    record {
-      is =
-          rw (c.cut.ensures, e)
-          (get_field a.s.now a.at a.w f (f + 8) c.load.result
-          (omega arith) (omega arith) (omega arith) (omega arith) c.load.ensures);
-      small = rw c.cut.ensures (mod-lt _ (pow_pos a.w));
-    }
+pub narrowed-requires : goal.narrowed-requires
+narrowed-requires g c = fits_in g.T.Number.most c.field.ensures.small (search rules)

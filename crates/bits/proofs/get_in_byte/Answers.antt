@@ -23,7 +23,7 @@ returns c =
     record {
       is =
           rw (c.cut.ensures, e)
-          (get_field a.s.now at a.k f (suc f) c.wide.result
-          (omega arith) (omega arith) (omega arith) (omega arith) (c.wide.ensures ∙ sym byte));
+          (get_field a.s.now at a.k f (suc f) c.from.result
+          (omega arith) (omega arith) (omega arith) (omega arith) (c.from.ensures ∙ sym byte));
       small = rw c.cut.ensures (mod-lt _ (pow_pos a.k));
     }

@@ -1,31 +1,18 @@
-use mathlib.Core.Path.{◌≡◌, refl}
-use Prim.Native.Nat.{suc, ◌-◌}
-use native.Mathlib.Omega.{arith}
-use lib.Seq.{slice_empty}
-use Rattle.bits.specs.Bits.{num, bits_of}
-use Rattle.bits.proofs.Bytes.{load_step}
+use Rattle.bits.proofs.Bytes.{loaded_none, loaded_more, loaded_all}
 use Rattle.bits.proofs.load.Goals as goal
 
 pub loop-i-init : goal.loop-i-init
-unfolding num bits_of
 loop-i-init c =
-    (omega arith, omega arith, omega arith, rw (slice_empty c.args.last c.args.s.now) refl)
+    let e = c.enumerate-i-items.ensures in
+    rw (c.into_iter-i-iterator.ensures.into_iter_gives, e.source, e.count, c.rev.ensures.source, c.iter.ensures.rest)
+    (loaded_none c.args.s.now)
 
 pub loop-i-preserved : goal.loop-i-preserved
 loop-i-preserved c =
-    let a = c.args in
-    let l = c.loop-i in
-    let e : l.i ≡ suc (l.i - 1) = omega arith in (
-      omega arith,
-      omega arith,
-      omega arith,
-      load_step a.s.now (l.i - 1) a.last l.acc c.wide.result l.low (omega arith) (omega arith)
-          (omega arith)
-          (omega (arith, c.type_inv.s (l.i - 1))) (omega arith) (rw e at l.invariant.3)
-          c.wide.ensures,
-    )
+    let s = c.in-Some.ensures.steps in
+    rw (s.1, s.2)
+    (loaded_more c.in-Some.field-0-1.now c.from.result c.requires (λ i. (c.type_inv.s i).fits) s.0 c.from.ensures
+    c.loop-i.invariant)
 
 pub returns : goal.returns
-returns c =
-    let e : c.loop-i.i ≡ c.args.first = omega arith in
-    rw e at c.loop-i.invariant.3
+returns c = loaded_all c.in-None.ensures.steps.0.0 c.loop-i.invariant

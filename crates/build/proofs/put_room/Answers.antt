@@ -8,15 +8,11 @@ use Rattle.build.proofs.put_room.Goals as goal
 
 pub returns : goal.returns
 returns c =
-    let a =
-    c.args in
-    let m = take a.count (drop a.from (bits_of a.message.now)) in
+    let a = c.args in
+    let b = bits_of a.message.now in
+    let lm = length_bits_of a.message.now in
+    let lo = length_bits_of a.out.now in
     c.put.ensures
-    ∙ rw (
-      c.fill.ensures,
-      c.copy.ensures,
-    )
-    (room_put a.at a.count a.room m (bits_of a.out.now)
-    (length_part a.count a.from (bits_of a.message.now) (omega (arith, length_bits_of a.message.now)))
-    (omega arith)
-    (omega (arith, length_bits_of a.out.now)))
+    ∙ rw (c.fill.ensures, c.copy.ensures)
+    (room_put a.at a.count a.room (take a.count (drop a.from b)) (bits_of a.out.now)
+    (length_part a.count a.from b (omega arith)) (omega arith) (omega arith))

@@ -5,7 +5,7 @@ use Rattle.fcs.proofs.after.Goals as goal
 pub returns : goal.returns
 returns c =
     let a = c.args in
-    let j = c.least-first.result in
+    let j = c.min-first.result in
     twice_code a.c a.x a.k j c.turned.result c.turned-2.result
     (omega arith) (omega arith) (omega arith) (omega arith)
-    (rw c.wide.ensures at c.turned.ensures) c.turned-2.ensures
+    (rw c.from.ensures at c.turned.ensures) c.turned-2.ensures

@@ -1,3 +1,4 @@
+use mathlib.Core.Path.{◌∙◌}
 use native.Mathlib.Omega.{arith}
 use lib.ListN.{length-take, length-replicate}
 use Rattle.probe_reports.proofs.Telling.{report_short, report_kind, report_said}
@@ -11,7 +12,7 @@ returns-then-body-lt5 c =
 pub returns-then-lent-gt1024 : goal.returns-then-lent-gt1024
 returns-then-lent-gt1024 c =
     let a = c.args in
-    let t = c.two_at-lent.ensures in (
+    let t = c.from-lent.ensures ∙ c.two_at.ensures in (
       c.requires.0,
       report_kind a.before a.line.now a.body.now _ c.unknown.result (omega arith)
           (omega arith) c.unknown.ensures,
@@ -28,6 +29,6 @@ heard-requires c =
 pub returns : goal.returns
 returns c =
     let a = c.args in
-    let t = c.two_at-lent.ensures in
+    let t = c.from-lent.ensures ∙ c.two_at.ensures in
     let k = c.heard.ensures in
     (k.0, report_said a.before a.line.now a.body.now (omega arith) (omega arith) (rw t at k.1))

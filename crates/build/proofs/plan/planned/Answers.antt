@@ -1,76 +1,63 @@
-use mathlib.Core.Path.{sym, ◌∙◌}
+-- Each test that passed leaves the rules after it; the first that does not gives the answer.
+use Rattle.std.proofs.Common.{rules}
+use Rattle.std.specs.Prelude.{Err}
+use mathlib.Core.Path.{◌≡◌, sym, ◌∙◌}
 use Rattle.build.proofs.PlanLaws.{by_numbers, by_to, by_from, by_run, by_lent, by_cut}
 use Rattle.build.proofs.plan.planned.Goals as goal
 
-pub returns-then-numbers-ne0 : goal.returns-then-numbers-ne0
-returns-then-numbers-ne0 c =
+pub returns-in_err-number_rules : goal.returns-in_err-number_rules
+returns-in_err-number_rules c =
     let a = c.args in
-    c.no_plan.ensures
-    ∙ by_numbers a.sync a.countdown a.fields a.n a.bytes a.lent
-    c.number_rules-numbers.ensures c.if-numbers-ne0.true
+    let e : c.from_residual.result ≡ Err c.in_err-number_rules.field-0.0 = search rules in
+    rw e
+    (by_numbers a.sync a.countdown a.fields a.n a.bytes a.lent
+    _ (rw c.in_err-number_rules.was at c.number_rules.ensures))
 
-pub returns-then-to-ne0 : goal.returns-then-to-ne0
-returns-then-to-ne0 c =
+pub returns-in_err-address_rules : goal.returns-in_err-address_rules
+returns-in_err-address_rules c =
     let a = c.args in
-    c.no_plan-then-to-ne0.ensures
-    ∙ by_to a.sync a.countdown a.fields a.n a.bytes a.lent
-    (sym c.number_rules-numbers.ensures ∙ c.if-numbers-ne0.false)
-    c.address_rules-to.ensures c.if-to-ne0.true
+    let e : c.from_residual-in_err-address_rules.result ≡ Err c.in_err-address_rules.field-0.0 = search rules in
+    rw e
+    (by_to a.sync a.countdown a.fields a.n a.bytes a.lent (rw c.in_ok-number_rules.was at c.number_rules.ensures)
+    _ (rw c.in_err-address_rules.was at c.address_rules.ensures))
 
-pub returns-then-from-ne0 : goal.returns-then-from-ne0
-returns-then-from-ne0 c =
+pub returns-in_err-address_rules-2 : goal.returns-in_err-address_rules-2
+returns-in_err-address_rules-2 c =
     let a = c.args in
-    c.no_plan-then-from-ne0.ensures
-    ∙ by_from a.sync a.countdown a.fields a.n a.bytes a.lent
-    (sym c.number_rules-numbers.ensures
-    ∙ c.if-numbers-ne0.false)
-    (sym c.address_rules-to.ensures ∙ c.if-to-ne0.false)
-    c.address_rules-from.ensures c.if-from-ne0.true
+    let e : c.from_residual-in_err-address_rules-2.result ≡ Err c.in_err-address_rules-2.field-0.0 = search rules in
+    rw e
+    (by_from a.sync a.countdown a.fields a.n a.bytes a.lent
+    (rw c.in_ok-number_rules.was at c.number_rules.ensures)
+    (rw c.in_ok-address_rules.was at c.address_rules.ensures)
+    _ (rw c.in_err-address_rules-2.was at c.address_rules-2.ensures))
 
 pub returns-then-not-run_fits : goal.returns-then-not-run_fits
 returns-then-not-run_fits c =
     let a = c.args in
-    c.no_plan-then-not-run_fits.ensures
-    ∙ by_run a.sync a.countdown a.fields a.n a.bytes a.lent
-    (sym c.number_rules-numbers.ensures
-    ∙ c.if-numbers-ne0.false)
-    (sym c.address_rules-to.ensures
-    ∙ c.if-to-ne0.false)
-    (sym c.address_rules-from.ensures ∙ c.if-from-ne0.false)
-    (sym c.run_fits.ensures
-    ∙ c.if-not-run_fits.true)
+    by_run a.sync a.countdown a.fields a.n a.bytes a.lent
+    (rw c.in_ok-number_rules.was at c.number_rules.ensures)
+    (rw c.in_ok-address_rules.was at c.address_rules.ensures)
+    (rw c.in_ok-address_rules-2.was at c.address_rules-2.ensures)
+    (sym c.run_fits.ensures ∙ c.if-not-run_fits.true)
 
 pub returns-then-not-bits_lent : goal.returns-then-not-bits_lent
 returns-then-not-bits_lent c =
-    let a =
-    c.args in
-    c.no_plan-then-not-bits_lent.ensures
-    ∙ by_lent a.sync a.countdown a.fields a.n a.bytes a.lent
-    (sym c.number_rules-numbers.ensures
-    ∙ c.if-numbers-ne0.false)
-    (sym c.address_rules-to.ensures
-    ∙ c.if-to-ne0.false)
-    (sym c.address_rules-from.ensures
-    ∙ c.if-from-ne0.false)
-    (sym c.run_fits.ensures
-    ∙ c.if-not-run_fits.false)
-    (sym c.bits_lent.ensures
-    ∙ c.if-not-bits_lent.true)
+    let a = c.args in
+    by_lent a.sync a.countdown a.fields a.n a.bytes a.lent
+    (rw c.in_ok-number_rules.was at c.number_rules.ensures)
+    (rw c.in_ok-address_rules.was at c.address_rules.ensures)
+    (rw c.in_ok-address_rules-2.was at c.address_rules-2.ensures)
+    (sym c.run_fits.ensures ∙ c.if-not-run_fits.false)
+    (sym c.bits_lent.ensures ∙ c.if-not-bits_lent.true)
 
 pub returns : goal.returns
 returns c =
-    let a =
-    c.args in
+    let a = c.args in
     c.plan_of.ensures
-    ∙ rw (c.header_bits-h.ensures, c.entry_of.ensures)
+    ∙ rw (c.header_bits-h.ensures, c.entry_of-entry.ensures)
     (by_cut a.sync a.countdown a.fields a.n a.bytes a.lent
-    (sym
-    c.number_rules-numbers.ensures ∙ c.if-numbers-ne0.false)
-    (sym c.address_rules-to.ensures
-    ∙ c.if-to-ne0.false)
-    (sym c.address_rules-from.ensures
-    ∙ c.if-from-ne0.false)
-    (sym c.run_fits.ensures
-    ∙ c.if-not-run_fits.false)
-    (sym c.bits_lent.ensures
-    ∙ c.if-not-bits_lent.false))
+    (rw c.in_ok-number_rules.was at c.number_rules.ensures)
+    (rw c.in_ok-address_rules.was at c.address_rules.ensures)
+    (rw c.in_ok-address_rules-2.was at c.address_rules-2.ensures)
+    (sym c.run_fits.ensures ∙ c.if-not-run_fits.false)
+    (sym c.bits_lent.ensures ∙ c.if-not-bits_lent.false))

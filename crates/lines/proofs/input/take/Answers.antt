@@ -21,7 +21,7 @@ returns-clause-took g c =
     let bytes = rw four at c.fill-got.ensures.bytes in (
       take 4 run,
       long,
-      low ∙ (omega (arith, c.two_at-length.ensures)),
+      low ∙ (omega (arith, c.from-length.ensures, c.two_at.ensures)),
       high ∙ sym c.two_at-kind.ensures,
       Consumes-trans _ _ _ _ _ bytes c.fill-came.ensures.bytes,
     )

@@ -1,11 +1,11 @@
-use native.Mathlib.Omega.{arith}
-use Rattle.lines.specs.Lines.{line_with}
-use Rattle.lines.proofs.Printing.{ended}
+use mathlib.Core.List.{append-nil}
+use Rattle.text.specs.Text.{spaced}
+use Rattle.lines.specs.Lines.{line_with, line_then}
 use Rattle.lines.proofs.line.line_with.Goals as goal
 
 pub returns : goal.returns
-unfolding line_with
+unfolding line_with line_then spaced
 returns c =
     let a = c.args in
-    let s = c.start_with-end in
-    ended a.out.now _ s.ensures.0 s.auto.out (omega (arith, s.ensures.1))
+    let w = c.line_then.ensures in
+    rw append-nil at w

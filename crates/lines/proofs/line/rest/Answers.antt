@@ -1,17 +1,14 @@
-use mathlib.Core.Path.{◌∙◌}
-use native.Mathlib.Omega.{arith}
-use Rattle.lines.proofs.Outputs.{rest_none, rest_same, rest_other}
+use mathlib.Core.Path.{◌≡◌, ◌∙◌}
+use Rattle.std.proofs.Common.{rules, tests}
+use Rattle.std.proofs.lemmas.Iterator.{YieldsList-from_slice, cases_from_all}
+use Rattle.lines.proofs.Outputs.{rest_found}
 use Rattle.lines.proofs.line.rest.Goals as goal
 
-pub returns-then-s-i-ne-BEFORE : goal.returns-then-s-i-ne-BEFORE
-returns-then-s-i-ne-BEFORE c =
-    let l = c.loop-i in
-    rest_other c.args.s.now l.i (omega arith) c.if-s-i-ne-BEFORE.true ∙ l.invariant
-
-pub loop-i-preserved : goal.loop-i-preserved
-loop-i-preserved c =
-    let l = c.loop-i in
-    rest_same c.args.s.now l.i (omega arith) c.if-s-i-ne-BEFORE.false ∙ l.invariant
-
 pub returns : goal.returns
-returns c = let l = c.loop-i in rest_none c.args.s.now l.i (omega arith) ∙ l.invariant
+returns c =
+    let s = c.args.s.now in
+    let bytes = YieldsList-from_slice s c.iter.ensures.rest in
+    let found =
+    cases_from_all _ _ _ (λ x. x ≡ 90) (λ x. x ≡ 90 → ⊥) c.all.ensures.ran bytes
+    (λ x q k. search (rules, tests)) (λ x q k. search (rules, tests)) in
+    c.from.ensures ∙ rest_found s c.all.result found

@@ -1,31 +1,12 @@
-use native.Mathlib.Omega.{arith}
-use lib.ListN.{length-take, length-replicate}
-use Rattle.probe_blocks.proofs.Builds.{build_short, build_kind, build_said}
+use Rattle.lines.proofs.Builds.{build_told}
+use Rattle.probe_blocks.specs.Calls.{built_text, build_line}
 use Rattle.probe_blocks.proofs.calls.build.Goals as goal
 
-pub returns-then-body-lt35 : goal.returns-then-body-lt35
-returns-then-body-lt35 c = let a = c.args in build_short a.line.now a.body.now (omega arith)
-
-pub returns-then-lent-gt1024 : goal.returns-then-lent-gt1024
-returns-then-lent-gt1024 c =
-    let a = c.args in
-    let t = c.two_at-lent.ensures in
-    rw (build_kind a.body.now (omega arith) (omega arith)) c.unknown.ensures
-
-pub slice_bounds-built-end : goal.slice_bounds-built-end
-slice_bounds-built-end c = simp (length-take, length-replicate) (omega arith)
-
-pub built-requires : goal.built-requires
-built-requires c = (
-  omega arith,
-  simp (length-take, length-replicate)
-      (omega arith),
-  omega (arith, c.requires),
-)
-
 pub returns : goal.returns
+unfolding build_line
 returns c =
     let a = c.args in
-    let t = c.two_at-lent.ensures in
-    build_said a.body.now (omega arith) a.line.now (omega arith)
-    (rw t at c.built.ensures)
+    let b = c.line_of_build in
+    build_told _ _ built_text a.line.now b.new.line a.body.now b.result
+    b.ensures.short b.ensures.unknown b.ensures.built
+    (λ body out old new n h l. rw (← l.reads, ← l.lends, ← l.before, ← l.after) l.met)

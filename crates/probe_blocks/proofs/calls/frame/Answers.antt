@@ -2,8 +2,8 @@ use native.Mathlib.Omega.{arith}
 use Rattle.probe_blocks.proofs.Saying.{frame_short, frame_said}
 use Rattle.probe_blocks.proofs.calls.frame.Goals as goal
 
-pub returns-then-body-lt3 : goal.returns-then-body-lt3
-returns-then-body-lt3 c = let a = c.args in frame_short a.line.now a.body.now (omega arith)
+pub returns-in_default : goal.returns-in_default
+returns-in_default c = let a = c.args in frame_short a.line.now a.body.now (omega arith)
 
 pub returns : goal.returns
 returns c =

@@ -11,4 +11,4 @@ returns-then-fit c =
 pub returns : goal.returns
 returns c =
     let e = sym c.fit.ensures ∙ c.if-fit.false in
-    rw c.new-2.ensures (rw e refl, fresh_reached 0 0 0 refl)
+    rw (c.new-2.ensures, c.number.ensures) (rw e refl, fresh_reached 0 0 0 refl)

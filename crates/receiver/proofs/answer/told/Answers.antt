@@ -1,39 +1,25 @@
-use Rattle.receiver.proofs.TellLaws.{single_tells, joined_tells, plain_tells}
 use native.Mathlib.Omega.{arith}
 use mathlib.Core.Path.{refl}
+use Rattle.receiver.proofs.TellLaws.{single_tells, joined_tells, plain_tells}
 use Rattle.receiver.proofs.answer.told.Goals as goal
 
-pub hand_block-requires : goal.hand_block-requires
-hand_block-requires c =
-    let p = c.requires in
-    (p.3, omega (arith, p.2), p.4 (omega (arith, c.if-v-eq-UNFRAGMENTED.true)))
-
-pub returns-then-v-eq-UNFRAGMENTED : goal.returns-then-v-eq-UNFRAGMENTED
-returns-then-v-eq-UNFRAGMENTED c =
+pub returns-in-Single : goal.returns-in-Single
+returns-in-Single c j s e =
     let a = c.args in
-    let p = c.requires in
-    λ j s e.
-    single_tells a.x a.blocks.now p.3 a.joining j a.v.dropped c.mark-dropped.ensures a.message.now
-    c.if-v-eq-UNFRAGMENTED.true (omega (arith, p.2)) c.hand_block.ensures c.no_loss.ensures
+    rw (c.plain-told.ensures, c.in-Single.is)
+    (single_tells a.x a.blocks.now c.requires.inside a.joining j a.v.dropped a.message.now
+    (omega (arith, c.requires.room)) c.hand_block.ensures)
 
-pub hand_joined-requires : goal.hand_joined-requires
-hand_joined-requires c =
-    let p = c.requires in
-    (p.3, p.2, p.1, p.4 (omega (arith, c.if-v-eq-JOINED.true)))
-
-pub returns-then-v-eq-JOINED : goal.returns-then-v-eq-JOINED
-returns-then-v-eq-JOINED c =
+pub returns-in-Joined : goal.returns-in-Joined
+returns-in-Joined c j s e =
     let a = c.args in
-    let p = c.requires in
-    λ j s e.
-    joined_tells a.x a.blocks.now p.3 a.joining j a.v.dropped c.mark-dropped.ensures a.message.now
-    c.if-v-eq-JOINED.true s e p.2 c.hand_joined.ensures c.no_loss-then-v-eq-JOINED.ensures
+    rw (c.plain-told.ensures, c.in-Joined.is)
+    (joined_tells a.x a.blocks.now c.requires.inside a.joining j a.v.dropped a.message.now s e c.requires.room
+    c.hand_joined.ensures)
 
-pub returns : goal.returns
-returns c =
+pub returns-in_default : goal.returns-in_default
+returns-in_default c j s e =
     let a = c.args in
-    let p = c.requires in
-    λ j s e.
-    plain_tells a.x a.blocks.now p.3 a.joining j a.v.dropped
-    c.mark-dropped.ensures a.message.now
-    c.if-v-eq-UNFRAGMENTED.false c.if-v-eq-JOINED.false p.0 c.plain.ensures refl
+    rw c.plain-told.ensures
+    (plain_tells a.x a.blocks.now c.requires.inside a.joining j a.v.dropped a.message.now a.v.outcome
+    c.in_default.not-Single c.in_default.not-Joined refl)

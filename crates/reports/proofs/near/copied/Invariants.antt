@@ -1,7 +1,6 @@
 use mathlib.Core.Path.{◌≡◌}
 use mathlib.Core.Bool.{false}
 use mathlib.Core.List.{List}
-use Prim.Native.Nat.{◌-◌, ◌≤◌}
 use lib.ListN.{take}
 use Rattle.history.specs.Step.{copied}
 use Rattle.history.specs.declared.Near.{Near}
@@ -9,8 +8,4 @@ use Rattle.reports.specs.Nears.{flat}
 use Rattle.reports.proofs.near.copied.Given as goal
 
 abbrev pub invariant-loop-i : goal.invariant-loop-i
-invariant-loop-i l =
-    (l.i ≤ l.count) × ((ps : List Near) → l.places ≡ flat ps → copied (take l.i ps) l.raw l.countdown ≡ false)
-
-abbrev pub decreases-loop-i : goal.decreases-loop-i
-decreases-loop-i l = l.count - l.i
+invariant-loop-i l = (ps : List Near) → l.near.places ≡ flat ps → copied (take l.i ps) l.raw l.countdown ≡ false

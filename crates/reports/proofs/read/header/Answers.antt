@@ -1,17 +1,10 @@
-use mathlib.Core.Path.{sym}
 use mathlib.Core.Bool.{true, false}
 use native.Mathlib.Omega.{arith}
 use borrow.Author.Tests.{eq-eqb, ne_eqb}
-use lib.Seq.{length-take-le}
 use Rattle.reports.proofs.ReadLaws.{header_none, first_small, flag_low, counted, header_reads}
 use borrow.Author.Rules.{rules}
 use Rattle.reports.proofs.read.header.Goals as goal
 use Rattle.reports.proofs.read.header.Goals.{then-x-eq1, else-x-eq1}
-
-pub slice_bounds-read_reported-end : goal.slice_bounds-read_reported-end
-slice_bounds-read_reported-end c =
-    sym
-    (length-take-le 8 c.args.blocks.now (omega (arith, c.requires)))
 
 pub returns-then-x-ne0 : goal.returns-then-x-ne0
 returns-then-x-ne0 c =

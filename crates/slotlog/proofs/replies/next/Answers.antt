@@ -1,17 +1,9 @@
 use mathlib.Core.Path.{sym, ◌∙◌}
+use mathlib.Core.Logic.{inl, inr}
 use Rattle.slotlog.specs.declared.log.Next.TheVariants.{Other, Cut, Part, End}
 use Rattle.slotlog.specs.declared.replies.Shown.TheVariants as shown
 use Rattle.slotlog.proofs.RunLaws.{passed_at, replies_same}
 use Rattle.slotlog.proofs.replies.next.Goals as goal
-
-pub heard-requires : goal.heard-requires
-heard-requires c = (
-  c.requires,
-  sym c.read.ensures ∙ c.in-Report.is,
-)
-
-pub returns-in-Report : goal.returns-in-Report
-returns-in-Report c = c.heard.ensures
 
 pub returns-in-Other : goal.returns-in-Other
 returns-in-Other c =
@@ -31,13 +23,9 @@ returns-in-Cut c =
 pub returns-in-Part : goal.returns-in-Part
 returns-in-Part c =
     let a = c.args in
-    let e = sym c.read.ensures ∙ c.in-Part.is in
-    replies_same a.receiver a.rest.now 0 shown.Wants c.requires
-    (λ s ls. passed_at s ls a.rest.now Part e)
-
-pub returns-in-End : goal.returns-in-End
-returns-in-End c =
-    let a = c.args in
-    let e = sym c.read.ensures ∙ c.in-End.is in
-    replies_same a.receiver a.rest.now 0 shown.Wants c.requires
-    (λ s ls. passed_at s ls a.rest.now End e)
+    elim c.in-Part.is [
+      | inl e ↦ replies_same a.receiver a.rest.now 0 shown.Wants c.requires
+          (λ s ls. passed_at s ls a.rest.now Part (sym c.read.ensures ∙ e))
+      | inr e ↦ replies_same a.receiver a.rest.now 0 shown.Wants c.requires
+          (λ s ls. passed_at s ls a.rest.now End (sym c.read.ensures ∙ e))
+    ]

@@ -1,6 +1,0 @@
-use Rattle.bits.proofs.Numbers.{fits_in}
-use borrow.Author.Rules.{rules}
-use Rattle.bits.proofs.get8.Goals as goal
-
-pub overflow_cast-result : goal.overflow_cast-result
-overflow_cast-result c = record { fits = fits_in 8 c.get.ensures.small (search rules) }

@@ -1,7 +1,0 @@
-use Rattle.demands.proofs.CallLaws.{builds}
-use Rattle.demands.proofs.builds.Goals as goal
-
-pub returns : goal.returns
-returns c =
-    let (a, o) = c.build.ensures in
-    builds _ a o

@@ -1,9 +1,0 @@
-use mathlib.Core.Path.{refl}
-use borrow.Author.Tests.{eq-eqb, ne_eqb}
-use Rattle.receiver.proofs.standing.Goals as goal
-
-pub returns-then-fault-ne0 : goal.returns-then-fault-ne0
-returns-then-fault-ne0 c = rw (ne_eqb _ 0 c.if-fault-ne0.true) refl
-
-pub returns : goal.returns
-returns c = rw (eq-eqb _ 0 c.if-fault-ne0.false) refl
