@@ -6,7 +6,7 @@ ghost use Rattle.transport.specs.Layouts.{ack_of, forward_width};
 ghost use Rattle.transport.specs.Runs.{cut, run_in, front_of, fixed_at, stored_at};
 
 use crate::kinds::Kind;
-use bits::least;
+use bits::{Number, least};
 
 // 1 for DM-SDS ACK.
 pub(crate) fn ack_of(carrier: u8) -> usize
@@ -35,31 +35,15 @@ pub(crate) fn run(s: &[u8], n: usize, at: usize, w: usize) -> u64
         return 0;
     }
     let m = least(n - at, w);
-    bits::get(s, at, m) << (w - m)
+    bits::get::<u64>(s, at, m) << (w - m)
 }
 
 // The `w` bits of a run that `after` bits follow.
-fn part(x: u64, after: usize, w: usize) -> u64
-    requires { (after ≤ 63) × (w ≤ 56) }
-    ensures { result ≡ cut after w x }
+pub(crate) fn part<T: Number>(x: u64, after: usize, w: usize) -> T
+    requires { (after ≤ 63) × (w ≤ T.most) }
+    ensures { T.value result ≡ cut after w x }
 {
-    (x >> after) & ((1 << w) - 1)
-}
-
-// The same, of eight bits at most.
-pub(crate) fn part8(x: u64, after: usize, w: usize) -> u8
-    requires { (after ≤ 63) × (w ≤ 8) }
-    ensures { result ≡ cut after w x }
-{
-    part(x, after, w) as u8
-}
-
-// The same, of 32 bits at most.
-fn part32(x: u64, after: usize, w: usize) -> u32
-    requires { (after ≤ 63) × (w ≤ 32) }
-    ensures { result ≡ cut after w x }
-{
-    part(x, after, w) as u32
+    T::narrowed((x >> after) & ((1 << w) - 1))
 }
 
 // What stands before the short data type identifier, which begins at `next`.
@@ -79,7 +63,7 @@ pub(crate) fn front_of(x: u64, ack: usize) -> Front
 {
     if ack == 1 {
         return Front {
-            acknowledged: part8(x, 49, 4),
+            acknowledged: part(x, 49, 4),
             addressed: 0,
             kind: 0,
             mni: 0,
@@ -87,7 +71,7 @@ pub(crate) fn front_of(x: u64, ack: usize) -> Front
             next: 4,
         };
     }
-    if part8(x, 52, 1) == 0 {
+    if part::<u8>(x, 52, 1) == 0 {
         return Front {
             acknowledged: 0,
             addressed: 0,
@@ -100,9 +84,9 @@ pub(crate) fn front_of(x: u64, ack: usize) -> Front
     Front {
         acknowledged: 0,
         addressed: 1,
-        kind: part8(x, 48, 4),
-        mni: part32(x, 24, 24),
-        ssi: part32(x, 0, 24),
+        kind: part(x, 48, 4),
+        mni: part(x, 24, 24),
+        ssi: part(x, 0, 24),
         next: 53,
     }
 }
@@ -127,14 +111,14 @@ pub(crate) struct Fixed {
 pub(crate) fn length_in(x: u64) -> usize
     ensures { (result ≡ cut 32 11 x) × (result ≤ 2047) }
 {
-    part(x, 32, 11) as usize
+    part::<u64>(x, 32, 11) as usize
 }
 
 // The storage flag.
 fn storage_in(x: u64) -> u8
     ensures { (result ≡ cut 16 1 x) × (result ≤ 1) }
 {
-    part8(x, 16, 1)
+    part(x, 16, 1)
 }
 
 // Of x, the 47 bits from the short data type identifier on, which begins at bit `at`.
@@ -147,26 +131,26 @@ pub(crate) fn fixed_at(at: usize, kind: Kind, x: u64) -> Fixed
     let fixed = Fixed {
         length: length_in(x),
         from: at + 15,
-        protocol: part8(x, 24, 8),
+        protocol: part(x, 24, 8),
         request: 0,
         short: 0,
         required: 0,
         storage: storage_in(x),
-        status: part8(x, 8, 8),
-        reference: part8(x, 0, 8),
+        status: part(x, 8, 8),
+        reference: part(x, 0, 8),
         next: at + 47,
     };
     match kind {
         Kind::Transfer => Fixed {
-            request: part8(x, 18, 2),
-            short: part8(x, 17, 1),
+            request: part(x, 18, 2),
+            short: part(x, 17, 1),
             status: 0,
-            reference: part8(x, 8, 8),
+            reference: part(x, 8, 8),
             next: at + 39,
             ..fixed
         },
         Kind::Report => Fixed {
-            required: part8(x, 19, 1),
+            required: part(x, 19, 1),
             ..fixed
         },
         Kind::Ack => Fixed {
@@ -175,8 +159,8 @@ pub(crate) fn fixed_at(at: usize, kind: Kind, x: u64) -> Fixed
         },
         Kind::Short => Fixed {
             from: at + 4,
-            status: part8(x, 35, 2),
-            reference: part8(x, 27, 8),
+            status: part(x, 35, 2),
+            reference: part(x, 27, 8),
             next: at + 20,
             ..Fixed::default()
         },
@@ -207,10 +191,10 @@ pub(crate) fn stored_at(s: &[u8], n: usize, at: usize, storage: u8) -> Stored
         };
     }
     let x = run(s, n, at, 56);
-    let forward = part8(x, 48, 3);
+    let forward: u8 = part(x, 48, 3);
     let w = forward_width(forward);
     Stored {
-        validity: part8(x, 51, 5),
+        validity: part(x, 51, 5),
         forward,
         address: part(x, 48 - w, w),
         typed: at + 8,

@@ -7,7 +7,7 @@ ghost use Rattle.transport.specs.Kinds.{number_or};
 ghost use Rattle.transport.specs.Runs.{kind_at, front_rules, end_rules};
 ghost use Rattle.transport.specs.Reading.{direct, forward_holds, fcs_holds, read_bits, read_of, answer};
 
-use crate::elements::{ack_of, fixed_at, front_of, length_in, part8, run, stored_at};
+use crate::elements::{ack_of, fixed_at, front_of, length_in, part, run, stored_at};
 use crate::kinds::Kind;
 use crate::{Message, Transport};
 use blocks::fault::Fault;
@@ -41,16 +41,16 @@ fn kind_at(n: usize, at: usize, x: u64, ack: usize) -> Option<Kind>
     requires { at ≤ 53 }
     ensures { number_or result ≡ kind_at n at x ack }
 {
-    match part8(x, 43, 4) {
+    match part::<u8>(x, 43, 4) {
         3 => kind_in_data(
             n,
             at + 27,
             length_in(x),
-            part8(x, 24, 8),
-            part8(x, 20, 4),
+            part::<u8>(x, 24, 8),
+            part::<u8>(x, 20, 4),
             ack,
         ),
-        4 if at + 10 <= n && part8(x, 37, 6) == 31 => Some(Kind::Short),
+        4 if at + 10 <= n && part::<u8>(x, 37, 6) == 31 => Some(Kind::Short),
         _ => None,
     }
 }
@@ -77,7 +77,7 @@ fn fcs_holds(s: &[u8], n: usize, flag: usize, end: usize) -> bool
     if flag != 1 || n < end + 32 {
         return true;
     }
-    bits::get32(s, end, 32) == fcs::fcs_of(s, end)
+    bits::get::<u32>(s, end, 32) == fcs::fcs_of(s, end)
 }
 
 // What stands before the short data type identifier: the first of the faults that it gives.

@@ -1,11 +1,16 @@
+use mathlib.Core.Path.{◌∙◌}
 use native.Mathlib.Omega.{arith}
-use Rattle.transport.proofs.ElementLaws.{part_code}
-use lib.Pow.{pow_pos}
-use Rattle.bits.proofs.Numbers.{ones_of}
+use Rattle.bits.proofs.Numbers.{fits_in}
+use Rattle.transport.proofs.ElementLaws.{part_code, cut_lt}
+use borrow.Author.Rules.{rules}
 use Rattle.transport.proofs.elements.part.Goals as goal
 
-pub overflow_sub-result : goal.overflow_sub-result
-overflow_sub-result c = rw (ones_of c.args.w (omega arith)) (pow_pos c.args.w)
+pub narrowed-requires : goal.narrowed-requires
+narrowed-requires g c =
+    let a = c.args in
+    rw (part_code a.x a.after a.w (omega (arith, g.met.T.Number.most_of_a_field)))
+    (fits_in g.T.Number.most (cut_lt a.after a.w a.x) (search rules))
 
 pub returns : goal.returns
-returns c = let a = c.args in part_code a.x a.after a.w (omega arith)
+returns g c =
+    let a = c.args in c.narrowed.ensures ∙ part_code a.x a.after a.w (omega (arith, g.met.T.Number.most_of_a_field))

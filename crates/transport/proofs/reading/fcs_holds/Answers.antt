@@ -6,4 +6,4 @@ pub returns : goal.returns
 returns c =
     let a = c.args in
     fcs_there a.end a.n a.s.now (omega arith) a.flag c.if-flag-ne1.false c.if-n-end.false
-    c.get32.ensures.is c.fcs_of.ensures
+    c.get.ensures.is c.fcs_of.ensures
