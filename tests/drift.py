@@ -27,7 +27,7 @@ DRIFTS = (
      {"lays_out"}),
     ("receiver", "src/lib.rt", "fn fresh(individual: u32, group: u32,", "fn fresh(group: u32, individual: u32,",
      {"begins"}),
-    ("receiver", "src/lib.rt", "fn hear(self, frame: u8, slot: u8,", "fn hear(self, slot: u8, frame: u8,",
+    ("receiver", "src/lib.rt", "fn hear(mut self, frame: u8, slot: u8,", "fn hear(mut self, slot: u8, frame: u8,",
      {"hears"}),
 )
 TOP = os.getcwd()

@@ -1,5 +1,6 @@
 -- The record that is kept, as a function of the list of transfers.
-use Rattle.std.specs.Prelude.{◌≡◌, Bool, true, false, cond, List, [], ◌∷◌, ◌++◌, map, ℕ, ◌+◌, ◌*◌, ◌<◌, ◌^◌, min, eqb, length, take, replicate, Option, Some, None}
+use Rattle.std.specs.Prelude.{◌≡◌, Bool, true, false, cond, List, [], ◌∷◌, ◌++◌, map, ℕ, ◌+◌, ◌*◌, ◌<◌, ◌^◌, min, eqb}
+use Rattle.std.specs.Prelude.{length, take, replicate, Option, Some, None}
 use Rattle.history.specs.Line.{Line, Every}
 use Rattle.bookings.specs.Pairs.{Pair, booked}
 use Rattle.bookings.specs.declared.Bookings.{Bookings}

@@ -43,6 +43,7 @@ enum Mark {
 }
 
 // What a call reads: a source of 2^24 or more is refused with 13.
+// Kept: its fault is a number beside the message, as the C interface has the answer, `Booked.transport`.
 fn reading(fields: Fields, n: usize, sdu: &[u8]) -> Transport
     ensures { result ≡ reading_of (lent fields n sdu.now) }
 {

@@ -1,5 +1,6 @@
 -- Building a DM-SDU with one of the four messages, bit for bit, and what is refused.
-use Rattle.std.specs.Prelude.{◌≡◌, Bool, true, cond, ◌&&◌, List, [], ◌∷◌, ◌++◌, ℕ, zero, suc, ◌+◌, ◌-◌, ◌*◌, ◌^◌, ◌≤◌, eqb, leb, ltb, length, take, Result, Ok, Err}
+use Rattle.std.specs.Prelude.{◌≡◌, Bool, true, cond, ◌&&◌, List, [], ◌∷◌, ◌++◌, ℕ, zero, suc, ◌+◌, ◌-◌, ◌*◌, ◌^◌, ◌≤◌}
+use Rattle.std.specs.Prelude.{eqb, leb, ltb, length, take, Result, Ok, Err}
 use Rattle.bits.specs.Bits.{bits_of}
 use Rattle.bits.specs.Layout.{Part, parts_with, pack, total, AllFit, AllNarrow}
 use Rattle.blocks.specs.Faults.{unless, first_of, number_of}

@@ -1,5 +1,6 @@
 -- Reading a DM-SDU: which of the four messages it is, its elements and its user data, and what is refused.
-use Rattle.std.specs.Prelude.{Bool, true, cond, List, [], ◌∷◌, ℕ, zero, suc, ◌+◌, ◌-◌, ◌*◌, ◌%◌, eqb, leb, ltb, length, take, Result, Ok, Err}
+use Rattle.std.specs.Prelude.{Bool, true, cond, List, [], ◌∷◌, ℕ, zero, suc, ◌+◌, ◌-◌, ◌*◌, ◌%◌, eqb, leb, ltb}
+use Rattle.std.specs.Prelude.{length, take, Result, Ok, Err}
 use Rattle.bits.specs.Bits.{bits_of, num, field}
 use Rattle.blocks.specs.Faults.{unless, first_of, number_of}
 use Rattle.blocks.specs.declared.fault.Fault.{Fault}

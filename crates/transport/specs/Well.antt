@@ -1,5 +1,6 @@
 -- What reads well and what is built, in plain facts.
-use Rattle.std.specs.Prelude.{◌≡◌, Bool, true, cond, List, [], ◌++◌, ℕ, ◌+◌, ◌-◌, ◌*◌, ◌^◌, ◌≤◌, ◌<◌, eqb, length, take, drop, set}
+use Rattle.std.specs.Prelude.{◌≡◌, Bool, true, cond, List, [], ◌++◌, ℕ, ◌+◌, ◌-◌, ◌*◌, ◌^◌, ◌≤◌, ◌<◌, eqb, length}
+use Rattle.std.specs.Prelude.{take, drop, set}
 use Rattle.bits.specs.Layout.{pack, parts_with, parts_in, element}
 use Rattle.fcs.specs.Annex.{fcs_of}
 use Rattle.transport.specs.Layouts.{ack_of, per, forward_width, Shape, layout, at, end_of}

@@ -39,19 +39,11 @@ pub(crate) fn run(s: &[u8], n: usize, at: usize, w: usize) -> u64
 }
 
 // The `w` bits of a run that `after` bits follow.
-fn cut(x: u64, after: usize, w: usize) -> u64
-    requires { (after ≤ 63) × (w ≤ 56) }
-    ensures { result ≡ cut after w x }
-{
-    (x >> after) & ((1 << w) - 1)
-}
-
-// The same, in the type that it is wanted in.
 pub(crate) fn part<T: Number>(x: u64, after: usize, w: usize) -> T
     requires { (after ≤ 63) × (w ≤ T.most) }
     ensures { T.value result ≡ cut after w x }
 {
-    T::narrowed(cut(x, after, w))
+    T::narrowed((x >> after) & ((1 << w) - 1))
 }
 
 // What stands before the short data type identifier, which begins at `next`.
@@ -119,7 +111,7 @@ pub(crate) struct Fixed {
 pub(crate) fn length_in(x: u64) -> usize
     ensures { (result ≡ cut 32 11 x) × (result ≤ 2047) }
 {
-    part::<u32>(x, 32, 11) as usize
+    part::<u64>(x, 32, 11) as usize
 }
 
 // The storage flag.
@@ -199,7 +191,7 @@ pub(crate) fn stored_at(s: &[u8], n: usize, at: usize, storage: u8) -> Stored
         };
     }
     let x = run(s, n, at, 56);
-    let forward = part(x, 48, 3);
+    let forward: u8 = part(x, 48, 3);
     let w = forward_width(forward);
     Stored {
         validity: part(x, 51, 5),

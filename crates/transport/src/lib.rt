@@ -56,6 +56,7 @@ pub struct Sdu {
 }
 
 // A refusal: the number, and 0 for everything else.
+// Kept: it takes a number; `Fault` would ask more of callers.
 pub fn refused(fault: u8) -> Transport
     ensures { result ≡ refused_transport fault }
 {
