@@ -14,9 +14,8 @@ ghost use Rattle.receiver.specs.Reached.{Reached, Hears};
 ghost use Rattle.transport.specs.Reading.{read_of};
 ghost use Rattle.transport.specs.Building.{sdu_of, out_of as sdu_in};
 ghost use Rattle.bookings.specs.Kept.{bookings_at, Reached as IndexReached};
-ghost use Rattle.bookings.specs.Book.{lent as lentSdu, Books};
+ghost use Rattle.bookings.specs.Book.{lent as lentSdu, booked_reply, Books};
 ghost use Rattle.history.specs.Line.{start};
-ghost use Rattle.board.specs.Board.{booked_reply};
 
 use blocks::continuation::Continuation;
 use blocks::header::{Fields, Header};
@@ -127,16 +126,14 @@ pub extern "C" fn pierstrand_make_bookings() -> Bookings
     Bookings::fresh()
 }
 
-// Books a message in the index where it stands: `Bookings::book`, and its index is stored.
+// Books a message in the index where it stands: `Bookings::book_in_place`.
 #[unsafe(no_mangle)]
 pub extern "C" fn pierstrand_book(b: &mut Bookings, fields: Fields, n: usize, sdu: &[u8]) -> Booked
     requires { IndexReached b.old }
     ensures { IndexReached b.new
         × Books b.old (lentSdu fields n sdu.now) (booked_reply b.new result) }
 {
-    let h = b.book(fields, n, sdu);
-    *b = h.bookings;
-    h.booked
+    b.book_in_place(fields, n, sdu)
 }
 
 // Takes the `w` bits from bit `at` on as a number: `reader::take_at`.

@@ -82,35 +82,31 @@ pushed_is p bs =
     let s = ap (◌∷◌ (number p)) (take-take 31 32 (map number bs ++ replicate 32 0) (omega arith)) in
     λ i. record { count = n i; pairs = s i }
 
--- a record and a mark
-abbrev marked : Bookings → ℕ → Entered
-marked b m = record { bookings = b; mark = m }
-
 -- one that is there
 pub entered_again : (b : Bookings) (x : ℕ) (t : Bool) → t ≡ is_in x (take b.count b.pairs) → t ≡ true
-    → marked b 2 ≡ entered_in b x
+    → entered b 2 ≡ entered_in b x
 unfolding entered_in
 entered_again b x t e h = rw (sym e, h) refl
 
 -- one that is not
 pub entered_new : (b : Bookings) (x : ℕ) (t : Bool) {n : ℕ} {ps : List ℕ} → t ≡ is_in x (take b.count b.pairs)
     → t ≡ false → n ≡ min 32 (b.count + 1) → ps ≡ x ∷ take 31 b.pairs
-    → marked (record { count = n; pairs = ps }) 1 ≡ entered_in b x
+    → entered (record { count = n; pairs = ps }) 1 ≡ entered_in b x
 unfolding entered_in
-entered_new b x t e h en ep = rw (sym e, h) (λ i. marked (record { count = en i; pairs = ep i }) 1)
+entered_new b x t e h en ep = rw (sym e, h) (λ i. entered (record { count = en i; pairs = ep i }) 1)
 
 entered_split : (t : Bool) (p : Pair) (bs : List Pair)
-    → entered_as t (record_of bs) (number p) ≡ marked (record_of (entering t p bs)) (cond t 2 1)
+    → entered_as t (record_of bs) (number p) ≡ entered (record_of (entering t p bs)) (cond t 2 1)
 entered_split true p bs = refl
-entered_split false p bs = ap (λ (b : Bookings). marked b 1) (pushed_is p bs)
+entered_split false p bs = ap (λ (b : Bookings). entered b 1) (pushed_is p bs)
 
 entered_at : (ts : Line Pair) (p : Pair) → Every InRange ts → InRange p
-    → entered_in (bookings_at ts) (number p) ≡ marked (bookings_at (ts ▸ p)) (cond (among p (last32 (booked ts))) 2 1)
+    → entered_in (bookings_at ts) (number p) ≡ entered (bookings_at (ts ▸ p)) (cond (among p (last32 (booked ts))) 2 1)
 unfolding entered_in
 entered_at ts p h hp = rw (held_is ts p h hp) (entered_split (among p (last32 (booked ts))) p (booked ts))
 
 pub entered_is : (ts : Line Pair) (b : Bookings) (p : Pair) → Leads ts b → InRange p
-    → entered_in b (number p) ≡ marked (bookings_at (ts ▸ p)) (cond (among p (last32 (booked ts))) 2 1)
+    → entered_in b (number p) ≡ entered (bookings_at (ts ▸ p)) (cond (among p (last32 (booked ts))) 2 1)
 entered_is ts b p l hp = ap (λ (x : Bookings). entered_in x (number p)) l.there ∙ entered_at ts p l.fit hp
 
 -- a transfer more leads to what is entered

@@ -8,7 +8,8 @@ use Rattle.bookings.specs.Pairs.{Pair, IsBooked, IsAgain}
 use Rattle.bookings.specs.Kept.{Leads}
 use Rattle.bookings.specs.declared.Bookings.{Bookings}
 use Rattle.bookings.specs.declared.Mark.{Mark}
-use Rattle.bookings.specs.declared.Mark.TheVariants.{Nothing, Booked, Again}
+use Rattle.bookings.specs.declared.Mark.TheVariants.{Nothing, New, Again}
+use Rattle.bookings.specs.declared.Booked.{Booked}
 use Rattle.bookings.specs.declared.Reply.{Reply}
 
 -- What is lent to a call: the header's fields, and n bits of a DM-SDU.
@@ -41,12 +42,16 @@ pair_of l = record { source = l.fields.source.ssi; reference = (reading_of l).me
 -- The marks' numbers.
 abbrev pub number_of : Mark → ℕ
 number_of Nothing = 0
-number_of Booked = 1
+number_of New = 1
 number_of Again = 2
 
--- The answer with this mark.
+-- A reply, of a record and what was booked.
+abbrev pub booked_reply : Bookings → Booked → Reply
+booked_reply b a = record { bookings = b; booked = a }
+
+-- The one with this mark.
 abbrev pub reply_of : Bookings → ℕ → Transport → Reply
-reply_of b m t = record { bookings = b; booked = record { mark = m; transport = t } }
+reply_of b m t = booked_reply b (record { mark = m; transport = t })
 
 -- A transfer after these: mark 1 where it is booked, 2 where it is "again", and the list with it leads to the record
 -- afterwards.

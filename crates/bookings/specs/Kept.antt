@@ -1,6 +1,6 @@
 -- The record that is kept, as a function of the list of transfers.
 use Rattle.std.specs.Prelude.{◌≡◌, Bool, true, false, cond, List, [], ◌∷◌, ◌++◌, map, ℕ, ◌+◌, ◌*◌, ◌<◌, ◌^◌, min, eqb}
-use Rattle.std.specs.Prelude.{length, take, replicate, Option, Some, None}
+use Rattle.std.specs.Prelude.{length, take, replicate}
 use Rattle.history.specs.Line.{Line, Every}
 use Rattle.bookings.specs.Pairs.{Pair, booked}
 use Rattle.bookings.specs.declared.Bookings.{Bookings}
@@ -47,10 +47,9 @@ pub record Entered : Type 0 where
   pub bookings : Bookings
   pub mark : ℕ
 
--- The record with a number more in it; or none, where the number was in the record b.
-abbrev pub entered : Bookings → Option Bookings → Entered
-entered b (Some c) = record { bookings = c; mark = 1 }
-entered b None = record { bookings = b; mark = 2 }
+-- This record, with this mark.
+abbrev pub entered : Bookings → ℕ → Entered
+entered b m = record { bookings = b; mark = m }
 
 -- A number entered: it is booked, mark 1; or it is there, nothing moves, and the mark is 2.
 abbrev pub entered_as : (again : Bool) → Bookings → ℕ → Entered

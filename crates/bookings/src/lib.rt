@@ -4,7 +4,7 @@
 ghost use Rattle.std.specs.Prelude.{◌≡◌, ◌+◌, ◌*◌, ◌<◌, ◌≤◌, ◌^◌};
 ghost use Rattle.history.specs.Line.{start};
 ghost use Rattle.bookings.specs.Kept.{bookings_at, Reached, entered, entered_in};
-ghost use Rattle.bookings.specs.Book.{lent, reading_of, number_of, reply_of, Books};
+ghost use Rattle.bookings.specs.Book.{lent, reading_of, number_of, booked_reply, Books};
 
 use blocks::fault::Fault;
 use blocks::header::{Address, Fields};
@@ -38,8 +38,17 @@ pub struct Reply {
 #[derive(Clone, Copy)]
 enum Mark {
     Nothing = 0,
-    Booked = 1,
+    New = 1,
     Again = 2,
+}
+
+impl Mark {
+    // Its number, as answers have it.
+    fn number(self) -> u8
+        ensures { result ≡ number_of self }
+    {
+        self as u8
+    }
 }
 
 // What a call reads: a source of 2^24 or more is refused with 13.
@@ -65,48 +74,52 @@ impl Bookings {
     }
 
     // Enters a transfer's pair, unless it is there: in front, and the oldest goes out.
-    fn enter(self, source: u32, reference: u8) -> Option<Bookings>
-        requires { (self.count ≤ 32) × (source < 2 ^ 24) }
-        ensures { entered self result ≡ entered_in self (source * 256 + reference) }
+    fn enter(&mut self, source: u32, reference: u8) -> Mark
+        requires { (self.old.count ≤ 32) × (source < 2 ^ 24) }
+        ensures { entered self.new (number_of result) ≡ entered_in self.old (source * 256 + reference) }
     {
         let pair = source * 256 + u32::from(reference);
         if self.pairs[..self.count].contains(&pair) {
-            return None;
+            return Mark::Again;
         }
-        let mut bookings = self;
-        bookings.pairs.copy_within(..31, 1);
-        bookings.pairs[0] = pair;
-        bookings.count = usize::min(self.count + 1, 32);
-        Some(bookings)
+        self.pairs.copy_within(..31, 1);
+        self.pairs[0] = pair;
+        self.count = usize::min(self.count + 1, 32);
+        Mark::New
     }
 
-    // This record after a call that read this, with its mark.
-    fn reply(self, mark: Mark, transport: Transport) -> Reply
-        ensures { result ≡ reply_of self (number_of mark) transport }
-    {
-        Reply {
-            bookings: self,
-            booked: Booked {
-                mark: mark as u8,
-                transport,
-            },
-        }
-    }
-
-    // Reads a DM-SDU, n bits of it, and books it if it is a transfer whose pair is not there. A refused message and one
-    // that is no transfer leave the record as it was. Asks for a record that `fresh` or an earlier `book` gave, and
-    // gives such a one.
-    pub fn book(self, fields: Fields, n: usize, sdu: &[u8]) -> Reply
-        requires { Reached self }
-        ensures { Reached result.bookings × Books self (lent fields n sdu.now) result }
+    // Reads a DM-SDU, n bits of it, and books it where the record stands if it is a transfer whose pair is not there. A
+    // refused message and one that is no transfer leave the record as it was. Asks for a record that `fresh` or an
+    // earlier call gave, and leaves such a one.
+    pub fn book_in_place(&mut self, fields: Fields, n: usize, sdu: &[u8]) -> Booked
+        requires { Reached self.old }
+        ensures { Reached self.new
+            × Books self.old (lent fields n sdu.now) (booked_reply self.new result) }
     {
         let transport = reading(fields, n, sdu);
         if transport.fault != 0 || transport.message.kind != 1 {
-            return self.reply(Mark::Nothing, transport);
+            return Booked {
+                mark: Mark::Nothing.number(),
+                transport,
+            };
         }
-        match self.enter(fields.source.ssi, transport.message.reference) {
-            Some(bookings) => bookings.reply(Mark::Booked, transport),
-            None => self.reply(Mark::Again, transport),
+        let mark = self.enter(fields.source.ssi, transport.message.reference);
+        Booked {
+            mark: mark.number(),
+            transport,
+        }
+    }
+
+    // The same of a record that is handed in, and the record afterwards. Asks for a record that `fresh` or an earlier
+    // `book` gave, and gives such a one.
+    pub fn book(mut self, fields: Fields, n: usize, sdu: &[u8]) -> Reply
+        requires { Reached self }
+        ensures { Reached result.bookings × Books self (lent fields n sdu.now) result }
+    {
+        let booked = self.book_in_place(fields, n, sdu);
+        Reply {
+            bookings: self,
+            booked,
         }
     }
 }
