@@ -47,7 +47,8 @@ lays_out x f i e = subst⁻¹ (LaysOut x f i) e (demand1.layout x f i)
 pub builds : (c : Call) {r : Built} {new : List ℕ} → r ≡ answer c → new ≡ after c → BuildsAs c r new
 builds c a o = rw (a, o) (record { settles = demand1.builds c; builds = demand2.builds c })
 
-pub begins : (individual group mni : ℕ) (r : Fresh) → r ≡ fresh_of individual group mni → BeginsAs individual group mni r
+pub begins : (individual group mni : ℕ) (r : Fresh) → r ≡ fresh_of individual group mni
+    → BeginsAs individual group mni r
 begins individual group mni r e =
     record {
       begins = rw e (demand1.fresh individual group mni);
@@ -78,7 +79,8 @@ block_part i l =
 
 pub reads_back : (c : Call) {r : Header} {new : List ℕ} → new ≡ after c → r ≡ read_header (sch_s new) (sch_h new)
     → Buildable c → r ≡ header_back c
-reads_back c o e x = e ∙ ap (λ (b : List ℕ). read_header (sch_s b) (sch_h b)) o ∙ ((demand2.builds c).well x).header_reads_back
+reads_back c o e x = e ∙ ap (λ (b : List ℕ). read_header (sch_s b) (sch_h b)) o
+    ∙ ((demand2.builds c).well x).header_reads_back
 
 pub reads_reported_back : (frame slot : ℕ) (c : Call) {r : Header} {new : List ℕ} → new ≡ after c
     → r ≡ read_reported frame slot (sch_s new) (sch_h new) → Buildable c → frame ≡ c.sync.frame

@@ -26,8 +26,10 @@ use Rattle.blocks.specs.declared.continuation.Continuation.{Continuation}
 use Rattle.bits.specs.Runs.{joined}
 use Rattle.blocks.specs.Slots.{fits_header, in_header}
 use Rattle.build.specs.Plan.{fragmented_for, blocks_for, build_fault}
-use Rattle.build.specs.Build.{shape_for, header_parts, header_block, continuation_block, continuation_blocks, built_bits}
-use Rattle.build.specs.Build.{built_as, build_of, out_of, sch_s, sch_h, cut_blocks, sch_fs, read_all, expected, block_bits}
+use Rattle.build.specs.Build.{shape_for, header_parts, header_block, continuation_block, continuation_blocks}
+use Rattle.build.specs.Build.{built_bits}
+use Rattle.build.specs.Build.{built_as, build_of, out_of, sch_s, sch_h, cut_blocks, sch_fs, read_all, expected}
+use Rattle.build.specs.Build.{block_bits}
 use Rattle.build.specs.Build.{last_when}
 use Rattle.blocks.proofs.FaultLaws.{given_first}
 use Rattle.build.proofs.RangeLaws as fields
@@ -223,7 +225,8 @@ module _ (c : Call) (r : InRange c) (few : k c ≤ 15) (rest : List ℕ) where
       let b = drop 24 (built c ++ rest) in
       block_read i j m b (subst (λ (n : ℕ). read_all (cut_blocks n b) ≡ expected n m) e all_back)
 
-  message_back : joined (header_message (sch_h (built c ++ rest)) ∷ block_bits (sch_fs (k c) (built c ++ rest))) ≡ bits c
+  message_back : joined (header_message (sch_h (built c ++ rest)) ∷ block_bits (sch_fs (k c)
+      (built c ++ rest))) ≡ bits c
   message_back = rw (all_lent c r) (rw (all_lent c r) at (built_joined (bits c) (whole c r few) rest))
 
 -- ---- an unfragmented header, built again
@@ -246,7 +249,8 @@ module _ (s b lent out : List ℕ) (w : Rebuildable s b lent out) where
       let r₀ = w.reserved_h in
       let none = fields.no_fault _ _ _ _ _ _ (in_range_again s b good plain r₃ r₈ r₀ l w.room) in
       let n = length (header_message b) in
-      let k₀ : blocks_for (fields_of (bits_of b)) n ≡ 0 = rw (fits_header_lem s b good plain r₃ r₈ r₀, sub_self n) refl in
+      let k₀ : blocks_for (fields_of (bits_of b)) n ≡ 0 = rw
+          (fits_header_lem s b good plain r₃ r₈ r₀, sub_self n) refl in
       let l₂ : length (s ++ b) ≡ 24 =
       length-append s b ∙ omega (arith, length_s s b good plain r₃ r₈ r₀, length_h s b good plain r₃ r₈ r₀) in
       rw (none, m) (

@@ -54,7 +54,8 @@ fresh_when_lem true individual group mni e = fresh_leads individual group mni e
 fresh_when_lem false individual group mni e = fresh_leads 0 0 0 refl
 
 pub leads : {s : Settings} {ls : Line Event} {r : Receiver} → Calls s ls r → Leads s ls r
-leads (begun individual group mni f e) = rw e (fresh_when_lem (settings_fit individual group mni) individual group mni refl)
+leads (begun individual group mni f e) = rw e (fresh_when_lem
+    (settings_fit individual group mni) individual group mni refl)
 leads (refused c l r old new h n e) = rw (h.refused n e).receiver (leads c)
 leads (accepted c l r old new h e) =
     let k = leads c in

@@ -13,7 +13,8 @@ use Rattle.blocks.proofs.SlotLaws.{passing_from, frames_from}
 use Rattle.history.specs.Lasts.{slots_on}
 use Rattle.history.specs.declared.Place.{Place}
 use Rattle.answering.specs.Calendar.{was_fragmented, last_frame, first_frame, header_at, end_at, headers, ends}
-use Rattle.answering.specs.Calendar.{passed_over, has_end, slots_from, slots, response_rules, Fits, no_slot, with_slots, calendar_at}
+use Rattle.answering.specs.Calendar.{passed_over, has_end, slots_from, slots, response_rules, Fits, no_slot}
+use Rattle.answering.specs.Calendar.{with_slots, calendar_at}
 use Rattle.answering.specs.Calendar.{calendar_of}
 use Rattle.answering.specs.Laid.{All, none, more, Laid}
 use Rattle.answering.specs.declared.Response.{Response}
@@ -84,7 +85,8 @@ plans r =
       given = go (first_of rules) refl;
     }
   where
-    go : (n : ℕ) → first_of (response_rules r) ≡ n → (calendar_at n (slots r)).fault ≡ 0 → Given r (calendar_at n (slots r))
+    go : (n : ℕ) → first_of (response_rules r) ≡ n → (calendar_at n (slots r)).fault ≡ 0
+        → Given r (calendar_at n (slots r))
     go zero e z = given r (fits r e)
     go (suc n) e z = absurd (omega arith)
 

@@ -2,7 +2,8 @@
 -- header fits and which needs at most fifteen continuation blocks. Reading them gives the message back. An unfragmented
 -- header that reads well, reserved bits zero, builds again to the same bits.
 -- The functions of src/ make these calls, and ensure what is said here of them.
-use Rattle.std.specs.Prelude.{◌≡◌, Bool, false, List, ◌∷◌, ◌++◌, ◌⊎◌, ℕ, suc, ◌+◌, ◌-◌, ◌*◌, ◌^◌, ◌≤◌, ◌<◌, min, length, take, drop, replicate}
+use Rattle.std.specs.Prelude.{◌≡◌, Bool, false, List, ◌∷◌, ◌++◌, ◌⊎◌, ℕ, suc, ◌+◌, ◌-◌, ◌*◌, ◌^◌, ◌≤◌, ◌<◌, min}
+use Rattle.std.specs.Prelude.{length, take, drop, replicate}
 use Rattle.bits.specs.Bits.{bits_n, bits_of, field, AllBytes}
 use Rattle.bits.specs.Fill.{filled}
 use Rattle.bits.specs.Layout.{pack, element}
@@ -15,7 +16,8 @@ use Rattle.blocks.specs.Header.{address_width, sdu_at, body_of, message_of_heade
 use Rattle.blocks.specs.Continuation.{continuation_parts, read_continuation}
 use Rattle.blocks.specs.Slots.{in_header}
 use Rattle.build.specs.Plan.{header_bits, fragmented_for, blocks_for, build_checks}
-use Rattle.build.specs.Build.{shape_for, header_parts, header_block, continuation_blocks, built_bits, built_bytes, build_of}
+use Rattle.build.specs.Build.{shape_for, header_parts, header_block, continuation_blocks, built_bits, built_bytes}
+use Rattle.build.specs.Build.{build_of}
 use Rattle.build.specs.Build.{out_of, sch_s, sch_h, sch_fs, block_bits, last_when}
 use Rattle.blocks.specs.declared.sync.Sync.{Sync}
 use Rattle.blocks.specs.declared.header.Fields.{Fields}

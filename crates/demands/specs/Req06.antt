@@ -41,7 +41,8 @@ pub record Plans (r : Response) (c : Calendar) : Type 0 where
   pub settled : Settles (response_rules r) c.fault (λ n. c ≡ with_fault n)
   pub given : c.fault ≡ 0 → Given r c
 
--- The same response, where the repeat of the header that comes g frames later was heard, with a countdown less by these.
+-- The same response, where the repeat of the header that comes g frames later was heard, with a countdown less by
+-- these.
 abbrev pub heard_on : ℕ → Response → Response
 heard_on g r =
     record {

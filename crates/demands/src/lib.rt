@@ -92,9 +92,11 @@ impl<'a> Asked<'a> {
     // The call of `build`.
     fn built(self, out: &mut [u8]) -> Built
         ensures answer { result
-            ≡ build_of self.entry.sync self.entry.countdown self.entry.fields self.entry.n (length self.entry.message.now) (length out.old) }
+            ≡ build_of self.entry.sync self.entry.countdown self.entry.fields self.entry.n
+            (length self.entry.message.now) (length out.old) }
         ensures output { out.new
-            ≡ out_of self.entry.sync self.entry.countdown self.entry.fields self.entry.n self.entry.message.now out.old }
+            ≡ out_of self.entry.sync self.entry.countdown self.entry.fields self.entry.n self.entry.message.now
+            out.old }
     {
         build(
             self.sync,

@@ -107,7 +107,8 @@ module _ (s h : List ℕ) (good : (read_header s h).fault ≡ 0) where
   unfolding fragmented_in body_of
   flag_read_lem = ap (λ (r : read.Header). r.fragmented) (sym (read_as s h good))
 
-  bits_read_lem : length (bits_of_message (message_of_header (body_of (bits_of h)) (bits_of h))) ≡ (read_header s h).bits
+  bits_read_lem : length (bits_of_message (message_of_header (body_of (bits_of h)) (bits_of h))) ≡
+      (read_header s h).bits
   bits_read_lem = ap (λ (r : read.Header). r.bits) (sym (read_as s h good))
 
 -- ---- Block i of a run of blocks.
@@ -259,7 +260,8 @@ module _ (m : Message) where
         ∙ ap (λ (n : ℕ). expected (blocks_for m.fields n) (n - in_header (header_bits m.fields) n)) all_bits
 
     -- the header's own bits
-    header_message_lem : bits_of_message (message_of_header (body_of (bits_of (sch_h out))) (bits_of (sch_h out))) ≡ take inside (bits m)
+    header_message_lem : bits_of_message (message_of_header (body_of (bits_of (sch_h out))) (bits_of
+        (sch_h out))) ≡ take inside (bits m)
     header_message_lem =
         let x = bits_of_message (message_of_header (body_of (bits_of (sch_h out))) (bits_of (sch_h out))) in
         let e = bits_read_lem (sch_s out) (sch_h out) good ∙ ap (λ (r : read.Header). r.bits) header_read in
@@ -372,6 +374,7 @@ module _ (m : Message) where
     pub message_inside : k m ≡ 0 → take inside (bits m) ≡ bits m
     message_inside e =
         sym (append-nil (take inside (bits m)))
-        ∙ ap₂ (λ (x : List Bool) (n : ℕ). x ++ joined (block_bits (cut_blocks n (drop 24 out)))) (sym header_message_lem)
+        ∙ ap₂ (λ (x : List Bool) (n : ℕ). x ++ joined (block_bits (cut_blocks n (drop 24 out))))
+            (sym header_message_lem)
         (sym e)
         ∙ joined_is

@@ -1,7 +1,8 @@
 -- From `build` to hand-over. The blocks of a build that was not refused, reported in the slots of its layout with
 -- nothing in the other slots, are handed over by a receiver that they are for as exactly that message, exactly once,
 -- whatever the receiver had heard before.
-use Rattle.std.specs.Prelude.{ℕ, suc, ◌+◌, ◌*◌, ◌<◌, ◌≡◌, Bool, true, false, cond, List, [], ◌++◌, ◌⊎◌, eqb, length, take, drop}
+use Rattle.std.specs.Prelude.{ℕ, suc, ◌+◌, ◌*◌, ◌<◌, ◌≡◌, Bool, true, false, cond, List, [], ◌++◌, ◌⊎◌, eqb, length}
+use Rattle.std.specs.Prelude.{take, drop}
 use Rattle.bits.specs.Bits.{bits_of}
 use Rattle.build.specs.Plan.{blocks_for}
 use Rattle.build.specs.Build.{build_of, out_of, sch_s, sch_h}

@@ -73,7 +73,8 @@ entered ts l t =
     (ts ▸ record { source = l.fields.source.ssi; reference = t.message.reference })
     ts
 
-pub transfers_in_lem : (cs : Line Call) → Every (λ c. Whole c.lent) cs → transfers cs ≡ transfers_in (each message_in cs)
+pub transfers_in_lem : (cs : Line Call) → Every (λ c. Whole c.lent) cs
+    → transfers cs ≡ transfers_in (each message_in cs)
 transfers_in_lem start w = refl
 transfers_in_lem (cs ▸ c) w =
     ap₂ (λ (ts : Line Pair) (t : Transport). entered ts c.lent t) (transfers_in_lem cs w.0)

@@ -138,7 +138,8 @@ pub record Req04 : Type 0 where
   pub user_back : (b : Builds) → (answer b).fault ≡ 0
       → user_in (back b) (sdu_bits (answer b).bits (after b)) ≡ user_bits b
   -- What reads well, with reserved bits zero and nothing after it, builds again to the same bits.
-  pub rebuilds : (r : Reads) → (found r).fault ≡ 0 → Exact (flag_read r) (shape_read r) (bits_read r) → (user out : List ℕ)
+  pub rebuilds : (r : Reads) → (found r).fault ≡ 0 → Exact (flag_read r) (shape_read r) (bits_read r)
+      → (user out : List ℕ)
       → (found r).bits ≤ 8 * length user → take (found r).bits (bits_of user) ≡ user_in (found r) (bits_read r)
       → r.n ≤ 8 * length out
       → let b = build_again r user out in

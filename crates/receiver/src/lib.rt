@@ -25,8 +25,8 @@ use reports::unit::Settings;
 use reports::verdict::judge;
 
 // The receiver. What is not there is zero.
-// Kept: that a receiver was reached stands in the clauses of `fresh` and `hear` (`Reached`), and in no type: C lends the
-// record, and these clauses are what README.md and the theorems say of it.
+// Kept: that a receiver was reached stands in the clauses of `fresh` and `hear` (`Reached`), and in no type: C lends
+// the record, and these clauses are what README.md and the theorems say of it.
 #[repr(C)]
 #[derive(Clone, Copy)]
 pub struct Receiver {
@@ -129,11 +129,11 @@ impl Receiver {
         }
     }
 
-    // The reply to a report that is accepted, or refused for a fault: it is read and judged, and the answer is told. To a
-    // refused one no time has gone by, and it brings nothing. What is lost is told of the assembly as it was before the
-    // report.
-    // Kept: place, kind and blocks are arguments, as C hands them over: a struct of them would be made in `hear_in_place`
-    // and taken apart in `read`, which is no plainer.
+    // The reply to a report that is accepted, or refused for a fault: it is read and judged, and the answer is told. To
+    // a refused one no time has gone by, and it brings nothing. What is lost is told of the assembly as it was before
+    // the report.
+    // Kept: place, kind and blocks are arguments, as C hands them over: a struct of them would be made in
+    // `hear_in_place` and taken apart in `read`, which is no plainer.
     fn reply(
         &mut self,
         accepted: Result<(), Fault>,

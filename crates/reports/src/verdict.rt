@@ -101,26 +101,23 @@ fn on_unfragmented(due: bool, meant: bool, copied: bool, lost: bool) -> Verdict
 }
 
 // By what the report in slot `q` brings, over what is left of the open run and of the earlier headers.
-// Kept: questions by `==`, and no `match`, which would copy the record (docs/DECISIONS.md, 91).
 pub fn judge(x: Brought, a: Open, near: &Nears, q: Place, lost: bool) -> Verdict
     requires { near.now.count ≤ 7 }
     ensures { Judged x a near.now.places near.now.count q lost result }
 {
     let due = is_due(a, q);
     let last = a.kept == a.more;
-    if x.what == What::Nothing {
-        return on_nothing(due, lost);
+    match x.what {
+        What::Nothing => on_nothing(due, lost),
+        What::Fragmented => {
+            let renewed = renews(a, x.meant, x.raw, x.countdown);
+            on_fragmented(x.meant, a.held == 1, renewed, lost)
+        }
+        What::Unfragmented => {
+            let copy = copied(near, x.raw, x.countdown);
+            on_unfragmented(due, x.meant, copy, lost)
+        }
+        What::Frag => on_frag(due, last, lost),
+        What::End => on_end(due, last, lost),
     }
-    if x.what == What::Fragmented {
-        let renewed = renews(a, x.meant, x.raw, x.countdown);
-        return on_fragmented(x.meant, a.held == 1, renewed, lost);
-    }
-    if x.what == What::Unfragmented {
-        let copy = copied(near, x.raw, x.countdown);
-        return on_unfragmented(due, x.meant, copy, lost);
-    }
-    if x.what == What::Frag {
-        return on_frag(due, last, lost);
-    }
-    on_end(due, last, lost)
 }

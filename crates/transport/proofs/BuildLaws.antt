@@ -39,7 +39,8 @@ narrow_in ws i n e = rw e (narrow_at ws i n)
 
 module _ (ws vs : List ℕ) (i : ℕ) {w : ℕ} (h : i < length ws) (l : length ws ≡ length vs) (n : AllNarrow ws)
     (e : w ≡ get_or ws i 0) (s : LeftFit ws vs i) where
-  next_is : fits (parts_with ws vs) ≡ (ltb (get_or vs i 0) (2 ^ w) && fits (parts_with (drop (suc i) ws) (drop (suc i) vs)))
+  next_is : fits (parts_with ws vs) ≡ (ltb (get_or vs i 0) (2 ^ w) && fits (parts_with (drop (suc i) ws) (drop
+      (suc i) vs)))
   next_is =
       rw e (s ∙ ap₂ (λ (a b : List ℕ). fits (parts_with a b)) (drop-cons ws i 0 h) (drop-cons vs i 0 (omega arith)))
 

@@ -53,7 +53,8 @@ module _ (q : Shape) (b : List Bool) (l : 1 ≤ q.kind) (h : q.kind ≤ 4) where
       (λ (k : ℕ). let p = of k in at 20 p ≤ end_at p b
       → take (end_at p b - at 20 p) (drop (at 20 p) b) ≡ user_in (transport_at p b) b ++ after_at p b)
       (λ e. sym (append-nil _)) (λ e. sym (append-nil _)) (λ e. refl)
-      (λ e. let z : end_at (of 4) b - at 20 (of 4) ≡ 0 = omega arith in ap (λ (x : ℕ). take x (drop (at 20 (of 4)) b)) z)
+      (λ e. let z : end_at (of 4) b - at 20 (of 4) ≡ 0 = omega arith in ap (λ (x : ℕ). take x (drop (at 20
+          (of 4)) b)) z)
       q.kind l h
 
   -- the length indicator is the length of both with the elements before them
@@ -81,7 +82,8 @@ module _ (q : Shape) (b : List Bool) (l : 1 ≤ q.kind) (h : q.kind ≤ 4) where
       (λ e. omega arith) (λ e. omega arith) (λ e. omega arith) (λ e. omega arith) q.kind l h
 
   -- where an SDS-ACK has nothing after its elements, the data end with the user data
-  ends_with : at 20 q ≤ end_at q b → (q.kind ≡ 3 → end_at q b ≡ at 20 q) → at 20 q + (transport_at q b).bits ≡ end_at q b
+  ends_with : at 20 q ≤ end_at q b → (q.kind ≡ 3 → end_at q b ≡ at 20 q)
+      → at 20 q + (transport_at q b).bits ≡ end_at q b
   ends_with =
       by_kind
       (λ (k : ℕ). let p = of k in at 20 p ≤ end_at p b → (k ≡ 3 → end_at p b ≡ at 20 p)

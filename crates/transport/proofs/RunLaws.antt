@@ -69,7 +69,8 @@ none_when (suc (suc ack)) b e = absurd (omega arith)
 pub flagged : (ack : ℕ) (b : List Bool) → ack ≤ 1 → Flagged ack (addressed_in ack b) (run_in 0 53 b)
 flagged ack b h = record { carried = h; small = addressed_le ack b; flag = flag_when ack b; none = none_when ack b }
 
-pub front_next : (ack a x : ℕ) → Flagged ack a x → ((front_of ack x).addressed ≡ a) × ((front_of ack x).next ≡ sdti_at ack a)
+pub front_next : (ack a x : ℕ) → Flagged ack a x
+    → ((front_of ack x).addressed ≡ a) × ((front_of ack x).next ≡ sdti_at ack a)
 unfolding front_of
 front_next zero zero x h = rw (h.flag refl) (refl, refl)
 front_next zero (suc zero) x h = rw (h.flag refl) (refl, refl)

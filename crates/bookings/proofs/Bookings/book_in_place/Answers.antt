@@ -19,5 +19,6 @@ returns c =
     let h : t.result.message.reference < 2 ^ 8 = omega arith in
     let x = entered c.enter-mark.new.self (number_of c.enter-mark.result) in
     rw c.number-2.ensures
-    (transfer_books c.args.self.now l t.result x c.requires t.ensures c.if-transport-ne0.false c.if-transport-ne1.false h
+    (transfer_books c.args.self.now l t.result x c.requires t.ensures c.if-transport-ne0.false
+        c.if-transport-ne1.false h
     c.enter-mark.ensures)
