@@ -179,6 +179,7 @@ fn has_end(r: Response, answered: Answered) -> bool
 }
 
 // The header in slot `i`, from 0, of the `m` frames from frame `k` on.
+// Kept: frame and place are numbers, here and below, as the definitions of specs/Calendar.antt take them.
 fn header_at(x: u8, k: u8, m: u8, i: u8) -> Slot
     requires slot { i < 2 * m }
     requires soon { k + m ≤ 255 }

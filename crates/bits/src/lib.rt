@@ -1,4 +1,7 @@
 // Bit strings over lent bytes: eight bits to a byte, the first bit highest.
+// Kept: a place is lent bytes and one or two bits of them, `at` and `w` or `from` and `to`, in every function: the
+// crates above reckon with such numbers, and a struct of them would be made at each call and taken apart in it, which
+// is no plainer.
 #![tactic(auto)]
 
 ghost use Rattle.std.specs.Prelude.{◌≡◌, false, leb, length, take, drop, replicate};

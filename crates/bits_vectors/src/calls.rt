@@ -6,6 +6,7 @@ use crate::parts;
 use bits::Number;
 
 // What a call answers: a number; the bytes that it changed; `none`.
+// Kept: there are three answers, which an Option has not.
 #[derive(Clone, Copy)]
 pub enum Said {
     Number(u64),

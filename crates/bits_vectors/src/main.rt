@@ -35,6 +35,7 @@ fn number(body: &[u8], at: usize) -> usize
 }
 
 // Makes a call on the runs `s` and `t`.
+// Kept: a `match` on the call's number, for each call takes other arguments; a table of closures would hide them.
 fn answer(call: u16, body: &[u8], s: &mut [u8], t: &[u8]) -> Result<Said, Untaken>
     requires { 15 ≤ length body.now }
 {

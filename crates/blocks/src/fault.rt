@@ -67,6 +67,7 @@ pub enum Fault {
 }
 
 impl Fault {
+    // Kept: a method whose clause says the number; `u8::from` would say it in a ghost member, no plainer.
     // Its number, as answers have it.
     pub fn number(self) -> u8
         ensures { result ≡ number_of self }

@@ -211,6 +211,7 @@ pub fn header_bits(fragmented: u8, to: u8, from: u8, width: u8) -> usize
 }
 
 // SCH/H as it stands, before it is judged.
+// Kept: flag and slot count as the block has them, for the definition `body_of` names both.
 #[derive(Clone, Copy)]
 struct Body {
     fill: u8,

@@ -1,5 +1,6 @@
 // The board's library: each public call under a name for C (include/pierstrand.h). What a call promises is what the
 // Rattle function that it calls promises.
+// Kept: the arguments are those of the C interface, one by one.
 #![tactic(auto)]
 
 ghost use Rattle.std.specs.Prelude.{◌≡◌, length};

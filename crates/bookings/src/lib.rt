@@ -12,6 +12,7 @@ use transport::Transport;
 
 // The last 32 booked, newest first: how many there are, and each pair as source * 256 + reference. What is not there is
 // zero.
+// Kept: a count beside an array, and below a number for the mark, as pierstrand.h shows them.
 #[repr(C)]
 #[derive(Clone, Copy)]
 pub struct Bookings {

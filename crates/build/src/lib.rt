@@ -226,6 +226,7 @@ fn put_message(
 }
 
 // Builds the blocks of the first `n` bits of a message at the output's start; refused, it writes nothing.
+// Kept: six arguments, as C hands them over; so in `planned`.
 pub fn build(
     sync: Sync,
     countdown: u8,

@@ -123,9 +123,11 @@ module _ (s : Settings) (c : Call) (r : InRange c) where
           held =
               more_held (block_lent 0 b q) refl true
               (same_place_is q (due p.frame c.countdown (count bs)) (is_due.1 e));
-          accepted =
-              (a.accepted, passes (block_lent 0 b q) refl (ap (brought 3) (length_bytes_n 34
-                  (continuation_block 0 b))));
+          accepted = (
+            a.accepted,
+            passes (block_lent 0 b q) refl (ap (brought 3) (length_bytes_n 34
+                (continuation_block 0 b))),
+          );
         }
 
   -- Nothing in m slots, and then the slot of the next block.

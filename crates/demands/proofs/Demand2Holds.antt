@@ -250,7 +250,7 @@ module _ (s b lent out : List ℕ) (w : Rebuildable s b lent out) where
       let none = fields.no_fault _ _ _ _ _ _ (in_range_again s b good plain r₃ r₈ r₀ l w.room) in
       let n = length (header_message b) in
       let k₀ : blocks_for (fields_of (bits_of b)) n ≡ 0 = rw
-          (fits_header_lem s b good plain r₃ r₈ r₀, sub_self n) refl in
+      (fits_header_lem s b good plain r₃ r₈ r₀, sub_self n) refl in
       let l₂ : length (s ++ b) ≡ 24 =
       length-append s b ∙ omega (arith, length_s s b good plain r₃ r₈ r₀, length_h s b good plain r₃ r₈ r₀) in
       rw (none, m) (

@@ -26,6 +26,7 @@ use build::{Built, build};
 use receiver::{Fresh, Receiver, Reply};
 
 // Demand 1 of `read_header`.
+// Kept: the arguments of each call, here and below, as the call itself takes them.
 fn reads(s: &[u8], h: &[u8]) -> Header
     ensures { Reads s.now h.now result }
 {

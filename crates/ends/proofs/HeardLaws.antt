@@ -375,6 +375,6 @@ module _ (m : Message) where
     message_inside e =
         sym (append-nil (take inside (bits m)))
         ∙ ap₂ (λ (x : List Bool) (n : ℕ). x ++ joined (block_bits (cut_blocks n (drop 24 out))))
-            (sym header_message_lem)
+        (sym header_message_lem)
         (sym e)
         ∙ joined_is

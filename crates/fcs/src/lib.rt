@@ -42,6 +42,7 @@ fn after(table: &[u32; 16], c: u32, x: u8, k: usize) -> u32
 }
 
 // The FCS of the first `n` bits: the table is laid down once, then two steps of four for each byte.
+// Kept: `n` beside the bytes: it counts bits, and the last byte may be taken in part.
 pub fn fcs_of(s: &[u8], n: usize) -> u32
     requires { Inside (length s.now) 0 n }
     ensures { result ≡ num (fcs_of (take n (bits_of s.now))) }

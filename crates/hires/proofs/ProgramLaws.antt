@@ -161,7 +161,7 @@ module _ (s : Settings) (ls : Line Lent) where
   hands_on (quiet h n) xs k z = unasked h n (outcome h) (number_is h k z) (each message_in (calls xs))
   hands_on (books h y c e) xs k z =
       asked h y (message_in c) (outcome h) (number_is h k z) (ap in_lent e
-          ∙ handed_is h k z) (each message_in (calls xs))
+      ∙ handed_is h k z) (each message_in (calls xs))
 
   -- a refused one hands nothing on
   refused_on : (x : Step) (xs : Line Step) (n : ℕ) → refusal (hearing x) ≡ suc n → calls (xs ▸ x) ≡ calls xs

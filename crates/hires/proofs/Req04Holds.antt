@@ -48,7 +48,7 @@ unfolding read_of
 read_settles r =
     let b = sdu_bits r.n r.sdu in
     settles (read_rules r) (answered_fault (first_of (read_rules r)) (transport_of (shape_of
-        (ack_of r.carrier) b) b) refl)
+    (ack_of r.carrier) b) b) refl)
     (λ n e. rw e refl)
 
 built_fault : (n bits : ℕ) → (built_as n bits).fault ≡ n

@@ -91,6 +91,7 @@ impl Lost {
 
 // What a report comes to: its outcome; whether an open assembly ends here without being handed over; what becomes of
 // the assembly; whether the header is one more that copies can come of.
+// Kept: two answers of yes and no, with which no value goes.
 #[derive(Clone, Copy)]
 pub struct Verdict {
     pub outcome: Outcome,

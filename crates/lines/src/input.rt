@@ -35,6 +35,7 @@ pub fn read_full<R: Read>(input: &mut R, run: &mut [u8]) -> usize
 }
 
 // Reads `n` bytes to the start of `run`, and answers how many of them were there; 0 where `run` is shorter.
+// Kept: `n` beside `run`, since a record may tell of more bytes than `run` has.
 fn fill<R: Read>(input: &mut R, run: &mut [u8], n: usize) -> usize
     ensures in_bounds { IsPrefixLen result run.new }
     ensures at_most { result ≤ n }

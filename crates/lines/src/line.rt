@@ -11,6 +11,10 @@ ghost use Rattle.lines.specs.Lines.{hex_text, rest_of, shown_of, unknown_line};
 
 use std::io::Write;
 
+// Kept: buffer, word and numbers are arguments of each line, and what each asks of the buffer is its own sum: these
+// functions could not fail, so nothing here takes memory (no String), and a struct of the three would be made at each
+// call and taken apart in it, no plainer.
+
 // What is kept after a record, and how many bytes of a buffer are its line; none where it is too short for its kind.
 #[derive(Clone, Copy)]
 pub struct Told<S> {

@@ -16,6 +16,8 @@ use slotlog::log::{Begun, FIRST};
 use slotlog::run::{Run, State};
 use std::io::{Read, Write};
 
+// Kept: `have` beside the log's room, here and below: the bytes after the first `have` are room for more of the log,
+// and no memory is taken. `input` and `to` are the reader and the writer of `main`, lent each for itself.
 // The receiver, and how many bytes at the start of the log's room are still to be read.
 #[derive(Clone, Copy)]
 struct Printer {

@@ -68,6 +68,7 @@ fn bits_in(s: &[u8]) -> usize
 // How many bits are left from bit `at` on: none past the end. Of a block above 2^29 bytes only the first 2^32 bits
 // count.
 #[tactic(auto, unfolding(crate::specs::Reading::left_of))]
+// Kept: a block and a bit of it, here and below, as C hands them over.
 pub fn left_at(s: &[u8], at: usize) -> usize
     ensures { result ≡ left_of s.now at }
 {

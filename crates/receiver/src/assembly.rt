@@ -22,6 +22,7 @@ pub struct Assembly {
 
 impl Assembly {
     // One that is not there.
+    // Kept: written out, since an array of 512 has no `Default`.
     pub(crate) fn none() -> Assembly
         ensures { result ≡ empty_assembly }
     {

@@ -19,6 +19,7 @@ fn bytes_at<const N: usize>(body: &[u8], at: usize) -> [u8; N]
     body[at..at + N].try_into().unwrap()
 }
 
+// Kept: a body and a place in it, as a record's table names them.
 // Kept: three functions by name; one over the type would take a trait with an impl for each width, of these same lines.
 // The number of the two bytes of `body` from place `at` on.
 pub fn two_at(body: &[u8], at: usize) -> u16

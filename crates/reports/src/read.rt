@@ -14,8 +14,8 @@ use store::Raw;
 // A report once read: what it brings, and the fault of its blocks; of a header whether it is for this unit, its SCH/H
 // but for the countdown, its fields, one less than its slot count, its countdown; zero where there is none. Its
 // message bits are so many of the lent bytes' from bit `from` on.
-// Kept: one record, since a `match` on an enum that had the parts of each kind would copy them (docs/DECISIONS.md, 91);
-// and the fault is a number, 0 for none, as the blocks' structs for C give it.
+// Kept: one record, since the definitions `Reads` and `Judged` and the laws of `hear` speak of its fields, zero where
+// there is none; and the fault is a number, 0 for none, as the blocks' structs for C give it.
 #[derive(Clone, Copy)]
 pub struct Brought {
     pub what: What,
@@ -29,7 +29,8 @@ pub struct Brought {
     pub bits: usize,
 }
 
-// The same fields. Kept: one by one, for so the bytes between them are not carried along (docs/DECISIONS.md, 94).
+// The same fields. Kept: one by one, for so the bytes between them are not carried along (docs/DECISIONS.md, 94): a
+// message that is handed over takes 16 instructions fewer of 1,108.
 pub(crate) fn same_fields(g: Fields) -> Fields
     ensures { result ≡ g }
 {

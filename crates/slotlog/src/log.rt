@@ -154,6 +154,7 @@ fn begin(log: &[u8]) -> Result<Begun, Fault>
 impl Begun {
     // How a log starts of which the first `have` bytes of a room are there, all of it where it has fewer; what is left
     // of them after the first record is moved to the room's start, also where its settings are refused.
+    // Kept: `have` beside the room, whose other bytes are room for more of the log.
     pub fn part(room: &mut [u8], have: usize) -> Result<Begun, Fault>
         ensures begun { result ≡ begun (begun_by (take have room.old)) }
         ensures reached { IfOk result (λ b. Reached b.receiver) }

@@ -39,6 +39,7 @@ fn hear(r: Receiver, frame: u8, slot: u8, kind: u8, blocks: &[u8]) -> Reply
 }
 
 // A report of `n` bytes at the start of the rest.
+// Kept: `n` beside the rest, which goes on after the report.
 #[tactic(auto, using(crate::proofs::LogLaws::found))]
 fn heard(receiver: Receiver, rest: &[u8], n: usize) -> NextReply
     requires reached { Reached receiver }

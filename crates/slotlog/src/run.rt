@@ -82,6 +82,7 @@ impl Run {
             written: 0,
             state: State::GoesOn,
         };
+        // Kept: no index is counted here; a turn is a record, and the state says whether another follows.
         while x.state == State::GoesOn && has_room(out.len(), x.written) {
             x = x.one(&log[x.read..], out);
         }
@@ -90,6 +91,7 @@ impl Run {
 
     // Reads what can be read of the first `have` bytes of a room, all of it where it has fewer, and moves what is left
     // of them to its start.
+    // Kept: `have` beside the room, whose other bytes are room for more of the log.
     pub fn part(receiver: Receiver, room: &mut [u8], have: usize, out: &mut [u8]) -> Run
         requires { Reached receiver }
         ensures ran { Ran receiver (take have room.old) out.old result out.new }

@@ -206,7 +206,7 @@ module _ (carrier flag : ℕ) (b : List Bool) where
         (front_rules carrier f.acknowledged ack f.kind a
         ++ (unless (leb 1 k) 21 ∷ unless true 21 ∷ unless (fcs_holds flag (end_in q b) b) 21 ∷ []))
         (last_rules y.next (end_in q b) flag (length b)) (last_rules (at 20 q) (end_in q b) flag (length b)) (u
-            ∙ sym w))
+        ∙ sym w))
 
     rules_are : first_of (rules_with ack f k x y (end_with k x) (length b)) ≡ first_of (rules_of carrier flag q b)
     rules_are = rules_when (ltb (length b) (at 19 q)) refl
@@ -287,7 +287,7 @@ module _ (carrier flag : ℕ) (b : List Bool) where
       let ack = ack_of carrier in
       let fl = flagged ack b (ack_le carrier refl) in
       of_kind ack (addressed_in ack b) (kind_in ack b) (storage_in ack b) (forward_in ack b) (front_of ack
-          (run_in 0 53 b))
+      (run_in 0 53 b))
       refl (storage_le ack b) refl (told ack b) (front_is ack (addressed_in ack b) b fl)
 
   read_is : {ack x₀ place y kind end n : ℕ} {f : Front} {x : Fixed} {t : Stored} → length b ≡ n

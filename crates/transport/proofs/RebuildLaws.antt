@@ -54,7 +54,7 @@ module _ (q : Shape) (b : List Bool) (l : 1 ≤ q.kind) (h : q.kind ≤ 4) where
       → take (end_at p b - at 20 p) (drop (at 20 p) b) ≡ user_in (transport_at p b) b ++ after_at p b)
       (λ e. sym (append-nil _)) (λ e. sym (append-nil _)) (λ e. refl)
       (λ e. let z : end_at (of 4) b - at 20 (of 4) ≡ 0 = omega arith in ap (λ (x : ℕ). take x (drop (at 20
-          (of 4)) b)) z)
+      (of 4)) b)) z)
       q.kind l h
 
   -- the length indicator is the length of both with the elements before them

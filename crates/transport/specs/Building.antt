@@ -174,7 +174,7 @@ fit_fault ack flag m n lent =
     let q = shape_for ack m in
     first_of
     (fit_rules (length_for q n) (most_for ack flag) (fits (parts_for ack m n)) (leb (at 20 q + n + 32 * flag)
-        (8 * lent)))
+    (8 * lent)))
 
 unfoldable pub sdu_of : ℕ → ℕ → Message → ℕ → ℕ → ℕ → Sdu
 sdu_of carrier flag m n bytes lent = built_as (build_fault carrier flag m n bytes lent) (bits_for carrier flag m n)
@@ -188,4 +188,4 @@ out_as (suc f) bits old = old
 unfoldable pub out_of : ℕ → ℕ → Message → ℕ → List ℕ → List ℕ → List ℕ
 out_of carrier flag m n user old =
     out_as (build_fault carrier flag m n (length user) (length old)) (built_bits carrier flag m (take n
-        (bits_of user))) old
+    (bits_of user))) old

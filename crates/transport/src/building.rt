@@ -89,6 +89,7 @@ fn fit_rules(length: usize, most: usize, fit: bool, enough: bool) -> Result<(), 
 
 // What decides the widths of a message's elements: 1 in a DM-SDS ACK, the additional addressing flag, the kind, storage
 // and the forward address type.
+// Kept: flags are 0 or 1, as the message for C and the definition `shape` have them, and as widths are reckoned.
 #[derive(Clone, Copy)]
 struct Shape {
     ack: usize,

@@ -27,6 +27,7 @@ pub(crate) fn forward_width(forward: u8) -> usize
 }
 
 // The `w` bits from bit `at` on as one number; those that are not among the first `n` are 0.
+// Kept: `n` beside the bytes, here and in `build`: it counts bits, and the last byte may be lent in part.
 pub(crate) fn run(s: &[u8], n: usize, at: usize, w: usize) -> u64
     requires { (n ≤ 8 * length s.now) × (at ≤ 256) × (w ≤ 56) }
     ensures { result ≡ run_in at w (take n (bits_of s.now)) }

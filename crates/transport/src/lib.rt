@@ -17,6 +17,7 @@ use blocks::header::Fields;
 // SDS-ACK, 4 SDS-SHORT REPORT. `addressed` is 1 where the calling party's `mni` and `ssi` stand in the DM-SDU. `status`
 // is the delivery status, of a short report its type. `address` is the forward address as one number: SSI, or SSI times
 // 2^24 and the extension.
+// Kept: numbers for kind and flags, as pierstrand.h shows them; so a fault beside the others in the structs below.
 #[repr(C)]
 #[derive(Clone, Copy, Default)]
 pub struct Message {

@@ -20,5 +20,5 @@ returns c =
     let x = entered c.enter-mark.new.self (number_of c.enter-mark.result) in
     rw c.number-2.ensures
     (transfer_books c.args.self.now l t.result x c.requires t.ensures c.if-transport-ne0.false
-        c.if-transport-ne1.false h
+    c.if-transport-ne1.false h
     c.enter-mark.ensures)
