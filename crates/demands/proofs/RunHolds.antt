@@ -14,7 +14,5 @@ use Rattle.demands.proofs.ExamplesHold.{hold}
 
 pub run_holds : AllHold (run fresh table)
 unfolding heard read_reported read_continuation sync_checks sync_of body_of fragmented_in to_in from_in message_in
-
-unfolding width_in
-    entry_of width_of strip before bit num bits_n bits_of bytes_n over test_bit step answer
+    width_in entry_of width_of strip before bit num bits_n bits_of bytes_n over test_bit step answer
 run_holds = hold (run fresh table) tt
