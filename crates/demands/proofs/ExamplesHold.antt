@@ -45,5 +45,6 @@ examples_hold = hold examples tt
 
 pub builds_hold : AllHold builds
 unfolding build_of build_fault run_fits entry_of width_of built_bits read_header sync_checks sync_of body_of
-    fragmented_in to_in from_in message_in width_in strip before bit num bits_n bits_of test_bit bytes_n filled fill_bits
+    fragmented_in to_in from_in message_in width_in strip before bit num bits_n bits_of test_bit bytes_n filled
+    fill_bits
 builds_hold = hold builds tt
