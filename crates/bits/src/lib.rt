@@ -1,7 +1,8 @@
 // Bit strings over lent bytes: eight bits to a byte, the first bit highest.
 // Kept: a place is lent bytes and one or two bits of them, `at` and `w` or `from` and `to`, in every function: the
 // crates above reckon with such numbers, and a struct of them would be made at each call and taken apart in it, which
-// is no plainer.
+// is no plainer. That `w` is at most 56, and `v` below 2^w, is asked in each contract: a type of such numbers would ask
+// callers to make one first.
 #![tactic(auto)]
 
 ghost use Rattle.std.specs.Prelude.{◌≡◌, false, leb, length, take, drop, replicate};

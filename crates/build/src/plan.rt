@@ -64,6 +64,7 @@ fn fits_header(h: usize, n: usize) -> bool
 }
 
 // How a message is cut: whether it is fragmented, the bits that the header takes, the number of continuation blocks.
+// Kept: the flag beside the numbers, as the definition `plan_of` has them: SCH/H has both.
 #[derive(Clone, Copy)]
 pub struct Plan {
     pub fragmented: bool,

@@ -13,6 +13,8 @@ ghost use Rattle.probe_transport.specs.Calls.{FreshTells, Called, BookTells};
 use bookings::Bookings;
 use lines::line::{Told, line_of_build};
 
+// Kept: body and line are arguments of each call, and what it asks of the line's buffer is its own sum; both come from
+// the program, one by one.
 // Reads a message.
 pub fn read(body: &[u8], line: &mut [u8]) -> Option<usize>
     requires { 512 ≤ length line.old }

@@ -112,6 +112,8 @@ fn block(settings: Settings, q: Place, blocks: &[u8]) -> Brought
 }
 
 // What a report brings to a unit with these settings.
+// Kept: settings, place, kind and blocks are arguments, as `hear` has them from C: a struct of them would be made there
+// and taken apart here, which is no plainer.
 pub fn read(settings: Settings, q: Place, kind: u8, blocks: &[u8]) -> Brought
     requires { brought kind (length blocks.now) ≡ true }
     ensures { Reads settings (lent q.frame q.slot kind blocks.now) result }

@@ -37,6 +37,7 @@ pub(crate) fn is_due(a: Open, q: Place) -> bool
 }
 
 // Whether a header, its SCH/H but for the countdown and its countdown, repeats an earlier one.
+// Kept: a header's SCH/H and its countdown are two arguments, here and below, as the definitions take them.
 fn repeats(raw: Raw, again: u8, other: Raw, countdown: u8) -> bool
     ensures { result ≡ repeats raw again other countdown }
 {

@@ -48,6 +48,7 @@ pub(crate) fn part<T: Number>(x: u64, after: usize, w: usize) -> T
 }
 
 // What stands before the short data type identifier, which begins at `next`.
+// Kept: flag and address type as they stand, for the definition `front_of` names both.
 #[derive(Clone, Copy)]
 pub(crate) struct Front {
     pub acknowledged: u8,
