@@ -12,15 +12,13 @@ pub(crate) fn fields(source: u32, body: &[u8]) -> Fields
     ensures { result ≡ fields_in source body.now }
 {
     Fields {
-        destination: Address { kind: 0, ssi: 0 },
         source: Address {
             kind: 0,
             ssi: source,
         },
-        mni: 0,
         message: body[0],
-        width: 0,
         elements: eight(body, 1),
+        ..Fields::default()
     }
 }
 
