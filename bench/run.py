@@ -326,7 +326,7 @@ def crates():
         for line in text:
             name, found, rest = line.split("#")[0].partition(":")
             if found:
-                deps[name.strip()] = rest.split()
+                deps[name.split()[0]] = rest.split()
     return list(deps), deps["board"] + ["board"]
 
 

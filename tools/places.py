@@ -122,7 +122,8 @@ def main():
         for m in re.finditer(r"\bstruct (\w+)[^{;(]*\{", code):
             said = balanced(code, m.end() - 1)[0]
             told = re.findall(
-                r"\b(fault|held|going|more|mark|state|dropped|near|last|fragmented|addressed|count|have): (u8|bool|usize)",
+                r"\b(fault|held|going|more|mark|state|dropped|near|last|fragmented|addressed|count|have): "
+                r"(u8|bool|usize)",
                 said,
             )
             if told and said.count(":") > 1:

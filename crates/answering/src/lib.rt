@@ -82,7 +82,8 @@ pub enum What {
 // F in it, what it was, and its slot count. Of the response: in how many frames its header goes out, the unit's DN210
 // (A.4), and, 0 for no, else yes, whether it starts a frame later, whether slot 1 of its first frame is used, whether
 // it is fragmented.
-// Kept: numbers for kinds and flags, as the C interface has them; so in `Slot` and `Calendar`.
+// Kept: numbers for kinds and flags, since the call for C in docs/req06.patch hands them over, and `response_rules`
+// refuses numbers that none has: an enum would ask more of callers. So in `Slot` and `Calendar`.
 #[repr(C)]
 #[derive(Clone, Copy)]
 pub struct Response {
@@ -179,7 +180,7 @@ fn has_end(r: Response, answered: Answered) -> bool
 }
 
 // The header in slot `i`, from 0, of the `m` frames from frame `k` on.
-// Kept: frame and place are numbers, here and below, as the definitions of specs/Calendar.antt take them.
+// Kept: frame and place are numbers, here and below, as the definitions `header_at` and `end_at` take them.
 fn header_at(x: u8, k: u8, m: u8, i: u8) -> Slot
     requires slot { i < 2 * m }
     requires soon { k + m ≤ 255 }

@@ -6,7 +6,7 @@ use crate::parts;
 use bits::Number;
 
 // What a call answers: a number; the bytes that it changed; `none`.
-// Kept: there are three answers, which an Option has not.
+// Kept: three answers, one with a number, so no Option.
 #[derive(Clone, Copy)]
 pub enum Said {
     Number(u64),

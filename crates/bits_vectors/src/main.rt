@@ -35,7 +35,8 @@ fn number(body: &[u8], at: usize) -> usize
 }
 
 // Makes a call on the runs `s` and `t`.
-// Kept: a `match` on the call's number, for each call takes other arguments; a table of closures would hide them.
+// Kept: a `match` on the call's number, as the table above has it: each call takes other arguments, which a table of
+// closures would hide.
 fn answer(call: u16, body: &[u8], s: &mut [u8], t: &[u8]) -> Result<Said, Untaken>
     requires { 15 ≤ length body.now }
 {

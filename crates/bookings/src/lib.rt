@@ -64,7 +64,7 @@ fn reading(fields: Fields, n: usize, sdu: &[u8]) -> Transport
 }
 
 impl Bookings {
-    // None are booked.
+    // None are booked. Kept: two zeros by name, as `bookings_at start` has them.
     pub fn fresh() -> Bookings
         ensures { (result ≡ bookings_at start) × Reached result }
     {
@@ -98,6 +98,7 @@ impl Bookings {
             × Books self.old (lent fields n sdu.now) (booked_reply self.new result) }
     {
         let transport = reading(fields, n, sdu);
+        // Kept: 1 is a transfer's number in the struct for C; the enum of kinds is `transport`'s own.
         if transport.fault != 0 || transport.message.kind != 1 {
             return Booked {
                 mark: Mark::Nothing.number(),

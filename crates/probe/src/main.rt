@@ -78,7 +78,8 @@ fn kept<S: Drop, F: FnOnce(S) -> State>(after: Told<S>, with: F) -> Told<State>
 }
 
 // The line of any record, and what is kept after it.
-// Kept: a `match` on the record's kind, for each kind has its own call with its own arguments.
+// Kept: a `match` on the record's kind, a number as the table above has it: each kind has its own call with its own
+// arguments.
 fn tell(before: State, kind: u16, body: &[u8], line: &mut [u8]) -> Told<State>
     requires reached { StateReached before }
     requires room { 4096 ≤ length line.old }

@@ -13,7 +13,8 @@ ghost use Rattle.probe_blocks.specs.Calls.{record_line};
 use lines::line::unknown;
 
 // The line of a record that leaves the receiver alone.
-// Kept: a `match` on the record's kind, for each kind has its own call; what each asks of the line's buffer is its own.
+// Kept: a `match` on the record's kind, a number as `record_line` has it: each kind has its own call, and what each
+// asks of the line's buffer is its own.
 pub fn answer(kind: u16, body: &[u8], line: &mut [u8]) -> Option<usize>
     requires { 4096 ≤ length line.old }
     ensures { Says line.old (record_line kind body.now) line.new result }

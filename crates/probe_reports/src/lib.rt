@@ -57,7 +57,8 @@ fn report_line(out: &mut [u8], a: Answer, s: &[u8]) -> usize
     line_then(out, b"report", &ns, s, (a.bits + 7) / 8, &lost)
 }
 
-// Kept: receiver, body and line are arguments of each call, as the program has them, one by one.
+// Kept: receiver, body and line are arguments: a struct of them would be made in `tell` and taken apart here, which is
+// no plainer. `Reached` stands in each contract, as `hear` asks it.
 pub fn unit(before: Receiver, body: &[u8], line: &mut [u8]) -> Told<Receiver>
     requires { Reached before × (512 ≤ length line.old) }
     ensures { Reached result.state

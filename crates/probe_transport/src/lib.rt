@@ -13,8 +13,9 @@ ghost use Rattle.probe_transport.specs.Calls.{FreshTells, Called, BookTells};
 use bookings::Bookings;
 use lines::line::{Told, line_of_build};
 
-// Kept: body and line are arguments of each call, and what it asks of the line's buffer is its own sum; both come from
-// the program, one by one.
+// Kept: body and line are arguments: a struct of them would be made in `tell` and taken apart here, which is no
+// plainer; and what each call asks of the line's buffer is its own sum.
+
 // Reads a message.
 pub fn read(body: &[u8], line: &mut [u8]) -> Option<usize>
     requires { 512 ≤ length line.old }

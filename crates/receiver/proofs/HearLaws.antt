@@ -5,6 +5,7 @@ use mathlib.Core.Bool.{Bool, true, false, not, cond}
 use mathlib.Core.List.{List, [], ◌++◌}
 use Prim.Native.Nat.{ℕ, suc, ◌+◌, ◌≤◌}
 use native.Mathlib.Omega.{arith}
+use borrow.Author.Tests.{eqb-true, eqb-false}
 use lib.ListN.{length}
 use Rattle.std.specs.Prelude.{Result, Ok, Err, is_ok, eqb}
 use Rattle.store.specs.Store.{store_of, handed}
@@ -16,13 +17,15 @@ use Rattle.history.specs.Step.{State, message_of, in_turn, is_over, older_near, 
 use Rattle.history.specs.Step.{near_of, near_after, opening, run_after, joined_after, outcome_of, aged, verdict_at}
 use Rattle.history.specs.Step.{answer, after}
 use Rattle.history.specs.Step.{quiet, is_held, is_due, on_nothing, passed, outcome_at, dropped_at, lost_of, lost_in}
-use Rattle.history.specs.Step.{loss_at}
+use Rattle.history.specs.Step.{loss_at, outcome_number}
 use Rattle.history.specs.declared.Place.{Place}
 use Rattle.history.specs.declared.Near.{Near}
 use Rattle.history.specs.declared.Nears.{Nears}
 use Rattle.history.specs.declared.Open.{Open}
 use Rattle.history.specs.declared.Lost.{Lost}
 use Rattle.history.specs.declared.Verdict.{Verdict}
+use Rattle.history.specs.declared.Outcome as code
+use Rattle.history.specs.declared.Outcome.TheVariants as outcome
 use Rattle.history.specs.declared.Outcome.TheVariants.{Quiet}
 use Rattle.history.specs.declared.What.TheVariants.{Nothing}
 use Rattle.blocks.specs.Faults.{number_of, refusal}
@@ -162,14 +165,24 @@ quiet_nothing : (due lost : Bool) → (on_nothing due lost).outcome ≡ Quiet
 quiet_nothing true lost = refl
 quiet_nothing false lost = refl
 
--- a buffer is written to only where it is long enough
-pub tells_inside : (a : Result (Unit {0}) Fault) {s : Settings} {l : Lent} {x : Brought} → Brings (refusal a) s l x
-    → (o : Open) (n : List Near) (q : Place) (lost : Bool) {v : Verdict}
-    → v ≡ judge x.what o n q x.meant x.raw x.countdown lost
-    → {m : ℕ} → (refusal a ≡ 0 → 512 ≤ m) → (v.outcome ≡ Quiet → ⊥) → 512 ≤ m
-tells_inside (Ok z) b o n q lost e h u = h refl
-tells_inside (Err f) b o n q lost e h u =
-    absurd (u (rw (e, b.refused (number_some f)) (quiet_nothing (is_due o q) lost)))
+-- an outcome's number is small
+pub few_outcomes : (o : code.Outcome) → outcome_number o ≤ 5
+few_outcomes outcome.Quiet = omega arith
+few_outcomes outcome.Single = omega arith
+few_outcomes outcome.Joined = omega arith
+few_outcomes outcome.Opened = omega arith
+few_outcomes outcome.Kept = omega arith
+few_outcomes outcome.Copied = omega arith
+
+module _ {f : ℕ} {s : Settings} {l : Lent} {x : Brought} (b : Brings f s l x) (o : Open) (n : List Near) (q : Place)
+    (lost : Bool) {v : Verdict} (e : v ≡ judge x.what o n q x.meant x.raw x.countdown lost) where
+  -- a buffer is written to only where it is long enough
+  room_when : {m : ℕ} → (f ≡ 0 → 512 ≤ m) → (d : Bool) → eqb f 0 ≡ d → (v.outcome ≡ Quiet → ⊥) → 512 ≤ m
+  room_when h true d u = h (eqb-true f 0 d)
+  room_when h false d u = absurd (u (rw (e, b.refused (eqb-false f 0 d)) (quiet_nothing (is_due o q) lost)))
+
+  pub tells_inside : {m : ℕ} → (f ≡ 0 → 512 ≤ m) → (v.outcome ≡ Quiet → ⊥) → 512 ≤ m
+  tells_inside h = room_when h (eqb f 0) refl
 
 -- ---- a place for the header that is kept
 

@@ -53,7 +53,7 @@ pub struct Fresh {
 }
 
 // One of two values. As a function, and no `if` where it is called: the reply has one way through (docs/DECISIONS.md,
-// 91).
+// 58).
 pub(crate) fn either<T: Copy>(first: bool, a: T, b: T) -> T
     ensures { result ≡ cond first a b }
 {

@@ -1,4 +1,4 @@
--- Bytes moved to the start, one by one. Assumes nothing.
+-- Bytes moved to the start of a room. Assumes nothing.
 use mathlib.Core.Path.{◌≡◌, refl, sym, ap, ◌∙◌}
 use mathlib.Core.Bool.{Bool, true, false}
 use mathlib.Core.List.{List, ◌++◌}

@@ -29,6 +29,8 @@ pub(crate) enum Kind {
 
 impl Kind {
     // The kind of a number; none where it is unknown.
+    // Kept: no `TryFrom`, for no error goes with it; and a `Kind` of its own, since a log has one kind more, in two
+    // bytes.
     fn of(number: u16) -> Option<Kind>
         ensures { result ≡ kind_of number }
     {

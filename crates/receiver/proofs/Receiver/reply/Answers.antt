@@ -26,7 +26,7 @@ told-answer-requires c =
       room = omega (arith, bits_small k t c.either-bits.ensures, c.heard-x.ensures.few);
       inside = c.heard-x.ensures.inside;
       buffer =
-          tells_inside a.accepted c.heard-x.ensures c.older_run-run.result (kept_near k t) c.either-tick.result
+          tells_inside c.heard-x.ensures c.older_run-run.result (kept_near k t) c.either-tick.result
           c.broken_off-lost.result
           (judged_kept k t c.forget.ensures c.heard-x.result c.older_run-run.result c.either-tick.result
           c.broken_off-lost.result c.judge-v.ensures)
