@@ -55,8 +55,8 @@ pub record CopiesBits (c : HearCall) : Type 0 where
   pub turns : InTurn (report_of c.settings first).place (reports c.settings (since ▸ c.report))
   pub same : uncounted (bits_of (sch_h_in first)) ≡ uncounted (bits_of (sch_h_in c.report))
   pub counted :
-      (header_in_lent first).countdown ≡ (header_in_lent c.report).countdown + frames (reports c.settings
-      (since ▸ c.report))
+      (header_in_lent first).countdown
+      ≡ (header_in_lent c.report).countdown + frames (reports c.settings (since ▸ c.report))
 
 -- What is answered to a report that was accepted.
 pub record Answers (c : HearCall) : Type 0 where
