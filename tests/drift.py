@@ -3,9 +3,9 @@
 
 drift.py        from the top of a repository in which all is proved
 
-Each drift swaps two parameters of a call. Contract and function name them as before, so the call still does what it
-promises, and every crate that `demands` stands on is proved. All are tried at once on a copy, outside the repository.
-There
+Each drift swaps two parameters of a call, and the arguments where its crate makes it. Contract and function name them
+as before, so the call still does what it promises, and every crate that `demands` stands on is proved. All are tried at
+once on a copy, outside the repository. There
 - what `demands` stands on must be proved;
 - `demands` must be refused, at those functions of its src/ that make these calls, and at no other;
 - without the functions of its src/ `demands` must be proved: nothing else in it sees the drift.
@@ -19,16 +19,24 @@ import tempfile
 
 import gate
 
-# The crate, the file, the signature as it is and as it drifts, and the functions of `demands` that make the call.
+# The crate, the file, the signature as it is and as it drifts, with a call of it in its crate if there is one, and the
+# functions of `demands` that make the call.
 DRIFTS = (
-    ("blocks", "src/header.rt", "fn read_header(s: &[u8], h: &[u8])", "fn read_header(h: &[u8], s: &[u8])",
+    ("blocks", "src/header.rt", (("fn read_header(s: &[u8], h: &[u8])", "fn read_header(h: &[u8], s: &[u8])"),),
      {"reads", "header_of", "reads_back", "builds_again"}),
-    ("blocks", "src/slots.rt", "fn due_frame(x: u8, f: u8, i: u8)", "fn due_frame(f: u8, x: u8, i: u8)",
+    ("blocks", "src/slots.rt", (("fn due_frame(x: u8, f: u8, i: u8)", "fn due_frame(f: u8, x: u8, i: u8)"),),
      {"lays_out"}),
-    ("receiver", "src/lib.rt", "fn fresh(individual: u32, group: u32,", "fn fresh(group: u32, individual: u32,",
+    ("receiver", "src/lib.rt",
+     (("fn fresh(individual: u32, group: u32,", "fn fresh(group: u32, individual: u32,"),),
      {"begins"}),
-    ("receiver", "src/lib.rt", "fn hear(mut self, frame: u8, slot: u8,", "fn hear(mut self, slot: u8, frame: u8,",
+    ("receiver", "src/lib.rt",
+     (("fn hear(mut self, frame: u8, slot: u8,", "fn hear(mut self, slot: u8, frame: u8,"),),
      {"hears"}),
+    ("receiver", "src/lib.rt",
+     (("fn hear_in_place(\n        &mut self,\n        frame: u8,\n        slot: u8,",
+       "fn hear_in_place(\n        &mut self,\n        slot: u8,\n        frame: u8,"),
+      ("self.hear_in_place(frame, slot, kind,", "self.hear_in_place(slot, frame, kind,")),
+     {"hears_in_place"}),
 )
 TOP = os.getcwd()
 
@@ -62,8 +70,9 @@ def replace(file, old, new):
 def try_on(copy):
     listed = gate.crates(TOP)
     gate.copy(TOP, copy, gate.reached(listed, ["demands"]))
-    for crate, file, old, new, _ in DRIFTS:
-        replace(path(copy, crate, file), old, new)
+    for crate, file, changes, _ in DRIFTS:
+        for old, new in changes:
+            replace(path(copy, crate, file), old, new)
     for name in listed["demands"]:
         proved, said = check(copy, name)
         if not proved:

@@ -11,6 +11,7 @@ ghost use Rattle.blocks.specs.Header.{read_header, read_reported};
 ghost use Rattle.build.specs.Build.{sch_s, sch_h, build_of, out_of};
 ghost use Rattle.reports.specs.Lent.{lent};
 ghost use Rattle.receiver.specs.Reached.{Reached};
+ghost use Rattle.receiver.specs.View.{replied};
 ghost use Rattle.demands.specs.Demand1.{Reads, ReadsReported, ReadsBlock, LaysOut};
 ghost use Rattle.demands.specs.Demand2.{k, header_back, sch_f, block_back, Buildable, Rebuildable, Rebuilt};
 ghost use Rattle.demands.specs.OfCalls.{call_by, BuildsAs, BeginsAs, HearsAs};
@@ -23,6 +24,7 @@ use blocks::header::{Header, read_header, read_reported};
 use blocks::sizes::{SchF, SchH, SchS};
 use blocks::slots::{Due, due_frame};
 use build::{Built, build};
+use receiver::answer::Answer;
 use receiver::{Fresh, Receiver, Reply};
 
 // Demand 1 of `read_header`.
@@ -178,4 +180,21 @@ fn hears(
         message.old message.new }
 {
     receiver.hear(frame, slot, kind, blocks, message)
+}
+
+// The same of `hear_in_place`, which is what C calls: the calls go on with the receiver where it stands.
+fn hears_in_place(
+    receiver: &mut Receiver,
+    frame: u8,
+    slot: u8,
+    kind: u8,
+    blocks: &[u8],
+    message: &mut [u8],
+) -> Answer
+    requires { Reached receiver.old }
+    ensures { Reached receiver.new
+        × HearsAs receiver.old (lent frame slot kind blocks.now) (replied receiver.new result)
+        message.old message.new }
+{
+    receiver.hear_in_place(frame, slot, kind, blocks, message)
 }

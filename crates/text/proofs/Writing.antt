@@ -96,3 +96,8 @@ unfolding written
 wrote_part old at run {new} {end} e f =
     let same : end - at ≡ length run = omega arith in
     record { bytes = e ∙ rw (same, drop-drop (length run) at old) refl; after = f }
+
+-- the same, where the part is said to be the run
+pub wrote_copy : (old : List ℕ) (at : ℕ) (run part : List ℕ) → part ≡ run
+    → Wrote old at run (put_mid at (at + length run - at) old part) (at + length run)
+wrote_copy old at run part e = wrote_part old at run (rw e refl) refl

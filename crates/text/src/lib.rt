@@ -23,6 +23,7 @@ pub fn decimal(out: &mut [u8], at: usize, n: u64) -> usize
 }
 
 // The bytes of `s`.
+#[tactic(auto, using(crate::proofs::Writing::wrote_copy))]
 pub fn copy(out: &mut [u8], at: usize, s: &[u8]) -> usize
     requires { at + length s.now ≤ length out.old }
     ensures { Wrote out.old at s.now out.new result }
