@@ -165,6 +165,17 @@ impl<'a> Reader<'a> {
         Ok(made.value)
     }
 
+    // Moves by any step over block, position and number, to where the step says, made or refused, and answers the step.
+    pub fn move_by<F: FnOnce(&[u8], usize, usize) -> Step>(&mut self, step: F, n: usize) -> Step
+        requires { F.IsAlwaysCallable step }
+        ensures answer { F.post step self.old.block self.old.at n result }
+        ensures moved { self.new ≡ moved_to result self.old }
+    {
+        let to = step(self.block, self.at, n);
+        self.at = to.at;
+        to
+    }
+
     // Takes the next `w` bits as a number, by `take_at`, and moves past them. A refusal leaves the reader where it is.
     pub fn take(&mut self, w: usize) -> Result<u64, Refusal>
         ensures answer { number_answer result ≡ answer_of (step_by taken_at self.old w) }
