@@ -1,24 +1,24 @@
 -- What reading a header makes of its parts. Assumes nothing.
 use mathlib.Core.Path.{◌≡◌, refl, sym, ap, ◌∙◌}
 use mathlib.Core.Bool.{Bool}
-use mathlib.Core.List.{List, ◌++◌}
+use mathlib.Core.List.{List, [], ◌∷◌, ◌++◌}
 use Prim.Native.Nat.{ℕ, zero, suc, ◌+◌, ◌≤◌}
 use lib.ListN.{length, drop}
 use Rattle.std.proofs.Common.{append_assoc}
 use Rattle.bits.specs.Bits.{bits_of}
-use Rattle.blocks.specs.Faults.{first_of}
-use Rattle.blocks.specs.Sdu.{bits_of_message}
+use Rattle.blocks.specs.Faults.{unless, first_of}
+use Rattle.blocks.specs.Sdu.{is_there, bits_of_message}
 use Rattle.blocks.specs.Sync.{sync_of, sync_checks}
 use Rattle.blocks.specs.Header.{message_in, run_in, width_in, fields_with, tail_of, body_of, message_of_header}
-use Rattle.blocks.specs.Header.{body_checks, place_rules, refused_header, header_of, answered, read_body}
+use Rattle.blocks.specs.Header.{rules_of, body_checks, place_rules, refused_header, header_of, answered, read_body}
 use Rattle.blocks.specs.Header.{read_header, read_reported}
 use Rattle.blocks.specs.declared.sync.Sync.{Sync}
 use Rattle.blocks.specs.declared.header.Body.{Body}
 use Rattle.blocks.specs.declared.header.Fields.{Fields}
 use Rattle.blocks.specs.declared.header.Tail.{Tail}
 use Rattle.blocks.specs.declared.header.Header.{Header}
-use Rattle.blocks.proofs.FaultLaws.{no_zero, chain_none, chain_given}
-use Rattle.blocks.proofs.RuleLaws.{body_holds}
+use Rattle.blocks.proofs.FaultLaws.{no_zero, chain_none, chain_given, chain_split}
+use Rattle.blocks.proofs.RuleLaws.{rules_hold}
 use Rattle.blocks.proofs.WidthLaws.{width_le_45}
 
 refused_answer : (n : ℕ) (r : Header) → (n ≡ 0 → ⊥) → refused_header n ≡ answered n r
@@ -33,23 +33,30 @@ refused_chain a b r {f} q h =
 
 -- ---- the elements
 
+-- the last rule
+abbrev eleven : List Bool → List ℕ
+eleven b = unless (is_there (message_of_header (body_of b) b)) 11 ∷ []
+
 -- what the rules say of a body that they pass
 pub record Held (t : Tail) : Type 0 where
   pub fits : t.first ≤ 124
   pub ends : t.first ≡ t.run + t.width
   pub narrow : t.width ≤ 45
 
-pub held : (b : List Bool) {e : Body} → e ≡ body_of b → first_of (body_checks b) ≡ 0 → Held e.tail
+pub held : (b : List Bool) {e : Body} → e ≡ body_of b → first_of (rules_of e) ≡ 0 → Held e.tail
 unfolding body_of width_in
 held b {e} p z =
-    let k = (body_holds b z).rules.tail in
+    let k = (rules_hold e z).tail in
     let at = tail_of b in
-    let listed : e.tail.width ≤ 254 = rw p k.listed in
     record {
-      fits = rw p k.fits;
+      fits = k.fits;
       ends = rw p refl;
-      narrow = width_le_45 (message_in at b) (drop (run_in at b) b) (ap (λ (x : Body). x.tail.width) p) listed;
+      narrow = width_le_45 (message_in at b) (drop (run_in at b) b) (ap (λ (x : Body). x.tail.width) p) k.listed;
     }
+
+-- and where 11 is passed too
+pub held_all : (b : List Bool) {e : Body} → e ≡ body_of b → first_of (body_checks b) ≡ 0 → Held e.tail
+held_all b {e} p z = held b p (rw p (chain_split (rules_of (body_of b)) (eleven b) z).0)
 
 module _ (y : Sync) (b : List Bool) where
   pub body_refused : {f : ℕ} → f ≡ first_of (body_checks b) → (f ≡ 0 → ⊥) → refused_header f ≡ read_body y b
@@ -115,7 +122,7 @@ module _ (s h : List ℕ) where
         (sym (chain_none first_rules (body_checks (bits_of h)) z) ∙ ap first_of rules_joined)
 
 -- for `read_body`, `read_header` and `read_reported`
-pub ruleset bodies = (held, body_answer, body_refused, no_zero)
+pub ruleset bodies = (held_all, body_answer, body_refused, no_zero)
 
 pub ruleset headers = (header_passed, header_refused, no_zero)
 

@@ -89,7 +89,7 @@ added_if_le : (t : Bool) (n : ℕ) → added_if t n ≤ n
 added_if_le true n = omega arith
 added_if_le false n = omega arith
 
-added_le : {a : ℕ} (flag n : ℕ) → a ≡ added flag n → a ≤ n
+pub added_le : {a : ℕ} (flag n : ℕ) → a ≡ added flag n → a ≤ n
 added_le flag n e = rw e (added_if_le (eqb flag 1) n)
 
 -- an entry's width is at most 21, or the mark's
