@@ -12,7 +12,7 @@ use borrow.Author.Tests.{eq-eqb, ne_eqb, leb-true, leb-false}
 use mir.Val.{bool_byte}
 use Rattle.bits.specs.Bits.{bits_n, over}
 use Rattle.bits.specs.Fill.{fill_bits, filled}
-use Rattle.bits.specs.Layout.{pack, AllFit}
+use Rattle.bits.specs.Layout.{pack, AllFit, AllNarrow}
 use Rattle.bits.proofs.Numbers.{bits_n_zero, take_of_drop}
 use Rattle.bits.proofs.Over.{over_over}
 use Rattle.bits.proofs.Filling.{length_fill_bits, length_filled}
@@ -22,7 +22,8 @@ use Rattle.blocks.specs.Continuation.{continuation_parts}
 use Rattle.build.specs.Build.{room_bits, shape_for, header_parts, header_block, continuation_block, last_when}
 use Rattle.build.specs.Build.{continuation_blocks}
 use Rattle.build.specs.Build.{HeaderFits}
-use Rattle.blocks.specs.Header.{sdu_at}
+use Rattle.blocks.specs.Header.{header_layout, sdu_at}
+use Rattle.blocks.proofs.HeaderLaws.{address_width_le}
 use Rattle.blocks.specs.declared.header.Fields.{Fields}
 
 -- a flag, as Rust makes a number of it
@@ -107,12 +108,18 @@ least_when false k l e =
 least : (k : ℕ) (l : List Bool) → (take (min (length l) k) l ≡ take k l) × (drop (min (length l) k) l ≡ drop k l)
 least k l = least_when (leb k (length l)) k l refl
 
-last_is : (i blocks k : ℕ) → blocks ≡ i + 1 + k → cond (eqb (i + 1) blocks) 1 0 ≡ last_when k
-last_is i blocks zero e = rw (eq-eqb (i + 1) blocks (omega arith)) refl
-last_is i blocks (suc k) e = rw (ne_eqb (i + 1) blocks (omega arith)) refl
+last_is : (k left : ℕ) → left ≡ suc k → cond (eqb left 1) 1 0 ≡ last_when k
+last_is zero left e = rw e refl
+last_is (suc k) left e = rw (ne_eqb left 1 (omega arith)) refl
 
-module _ (b : List Bool) (n from count i blocks : ℕ) (e : i < blocks) (q : count ≡ min (n - from) 264) (f : from ≤ n)
-    (l : n ≤ length b) where
+-- the last block by its place
+last_at : (i blocks k : ℕ) → blocks ≡ i + 1 + k → cond (eqb (i + 1) blocks) 1 0 ≡ last_when k
+last_at i blocks zero e = rw (eq-eqb (i + 1) blocks (omega arith)) refl
+last_at i blocks (suc k) e = rw (ne_eqb (i + 1) blocks (omega arith)) refl
+
+module _ (b : List Bool) (n from count left k last at : ℕ) (e : left ≡ suc k) (q : count ≡ min (n - from) 264)
+    (w : last ≡ cond (eqb left 1) 1 0)
+    (f : from ≤ n) (l : n ≤ length b) where
   abbrev rest : List Bool
   rest = drop from (take n b)
 
@@ -126,24 +133,37 @@ module _ (b : List Bool) (n from count i blocks : ℕ) (e : i < blocks) (q : cou
   rest_rest = sym (least 264 rest).1 ∙ rw (rest_length, ← q) (drop-drop count from (take n b))
 
   -- with one block put, the ones after it are still to come
-  pub blocks_turn : (old new : List Bool) → 192 + 272 * blocks ≤ length old
-      → new ≡ over (192 + 272 * i) (continuation_block (cond (eqb (i + 1) blocks) 1 0) (take count (drop from b))) old
-      → over (192 + 272 * (i + 1)) (continuation_blocks (blocks - (i + 1)) (drop (from + count) (take n b))) new
-      ≡ over (192 + 272 * i) (continuation_blocks (blocks - i) rest) old
+  pub blocks_turn : (old new : List Bool) → at + 272 * left ≤ length old
+      → new ≡ over at (continuation_block last (take count (drop from b))) old
+      → over (at + 272) (continuation_blocks k (drop (from + count) (take n b))) new
+      ≡ over at (continuation_blocks left rest) old
   blocks_turn old new h p =
-      let at = 192 + 272 * i in
-      let k = blocks - (i + 1) in
       let m = take count (drop from b) in
-      let x = continuation_block (cond (eqb (i + 1) blocks) 1 0) m in
+      let x = continuation_block last m in
       let lm : length m ≤ 264 = rw (← rest_first) (take_le 264 rest) in
-      let lx : length x ≡ 272 = length_block (cond (eqb (i + 1) blocks) 1 0) m lm in
+      let lx : length x ≡ 272 = length_block last m lm in
       let z = continuation_blocks k (drop (from + count) (take n b)) in
       let lz : length z ≡ 272 * k = length_blocks k (drop (from + count) (take n b)) in
+      let g : continuation_blocks left rest ≡ x ++ z =
+      rw e (rw (rest_first, rest_rest, ← last_is k left e, ← w) refl) in
+      rw (p, g) (ap (λ (i : ℕ). over (at + i) z (over at x old)) (sym lx) ∙ over_over at x z old (omega arith))
+
+-- so with the blocks after the header, counted from the first
+module _ (b : List Bool) (n from count i blocks : ℕ) (e : i < blocks) (q : count ≡ min (n - from) 264) (f : from ≤ n)
+    (l : n ≤ length b) where
+  pub placed_turn : (old new : List Bool) → 192 + 272 * blocks ≤ length old
+      → new ≡ over (192 + 272 * i) (continuation_block (cond (eqb (i + 1) blocks) 1 0) (take count (drop from b))) old
+      → over (192 + 272 * (i + 1)) (continuation_blocks (blocks - (i + 1)) (drop (from + count) (take n b))) new
+      ≡ over (192 + 272 * i) (continuation_blocks (blocks - i) (drop from (take n b))) old
+  placed_turn old new h p =
+      let at = 192 + 272 * i in
+      let k = blocks - (i + 1) in
       let s : blocks - i ≡ suc k = omega arith in
-      let g : continuation_blocks (blocks - i) rest ≡ x ++ z =
-      rw s (rw (rest_first, rest_rest, ← last_is i blocks k (omega arith)) refl) in
+      let last : ℕ = cond (eqb (i + 1) blocks) 1 0 in
+      let w : last ≡ cond (eqb (blocks - i) 1) 1 0 =
+      last_at i blocks k (omega arith) ∙ sym (last_is k (blocks - i) s) in
       let t : 192 + 272 * (i + 1) ≡ at + 272 = omega arith in
-      rw (t, p, g) (ap (λ (y : ℕ). over (at + y) z (over at x old)) (sym lx) ∙ over_over at x z old (omega arith))
+      rw t (blocks_turn b n from count (blocks - i) k last at s q w f l old new (omega arith) p)
 
 -- ---- SCH/H
 
@@ -153,6 +173,13 @@ pub fill_fits : (f count countdown fill : ℕ) (g : Fields) → fill ≤ 1 → A
 fill_fits f count countdown fill g h (reserved, (none, others)) = (reserved, (omega arith, others))
 
 module _ (f count countdown inside : ℕ) (g : Fields) (k : HeaderFits f count countdown g inside) where
+  -- no element is wider than one `put` takes
+  pub narrow_parts : AllNarrow (header_layout (shape_for f g))
+  narrow_parts =
+      let f = k.flag in
+      let w = k.narrow in
+      omega (arith, address_width_le g.destination.kind, address_width_le g.source.kind)
+
   pub header_put : (fill : ℕ) (m b : List Bool) → let first = sdu_at (shape_for f g) in
       let parts = header_parts fill f count countdown g in
       length m ≡ inside → fill ≡ cond (ltb inside (124 - first)) 1 0 → 192 ≤ length b

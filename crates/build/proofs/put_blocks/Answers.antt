@@ -4,7 +4,7 @@ use native.Mathlib.Omega.{arith}
 use Rattle.bits.specs.Bits.{bits_of}
 use Rattle.bits.proofs.Bytes.{length_bits_of}
 use Rattle.bits.proofs.Over.{over_nil}
-use Rattle.build.proofs.BuildLaws.{blocks_turn}
+use Rattle.build.proofs.BuildLaws.{placed_turn}
 use Rattle.build.proofs.put_blocks.Goals as goal
 
 pub loop-i-preserved : goal.loop-i-preserved
@@ -17,7 +17,7 @@ loop-i-preserved c =
       inside = omega arith;
       kept = omega arith;
       blocks =
-          blocks_turn b a.n l.from c.least-count.result l.i c.from-blocks.result c.loop-i-test.true
+          placed_turn b a.n l.from c.least-count.result l.i c.from-blocks.result c.loop-i-test.true
           c.least-count.ensures l.invariant.inside (omega arith) (bits_of l.out) (bits_of c.put_block.new.out)
           (omega arith) c.put_block.ensures
           ∙ l.invariant.blocks;

@@ -1,12 +1,13 @@
 -- What `planned` has shown is what each block asks for; the blocks together are the output.
 use Rattle.std.proofs.Common.{rules}
 use Rattle.std.specs.Prelude.{Err}
-use mathlib.Core.Path.{◌≡◌}
+use mathlib.Core.Path.{◌≡◌, refl}
 use native.Mathlib.Omega.{arith}
 use mathlib.Core.Bool.{cond}
 use lib.ListN.{length}
 use Rattle.bits.specs.Bits.{bits_of}
 use Rattle.bits.proofs.Bytes.{all_bytes}
+use Rattle.blocks.proofs.FaultLaws.{no_zero}
 use Rattle.blocks.specs.Slots.{in_header}
 use Rattle.build.specs.Plan.{header_bits, fragmented_for, blocks_for}
 use Rattle.build.proofs.RangeLaws.{InRange, sync_fits, header_fits, inside_le, n_small}
@@ -19,7 +20,7 @@ returns-in_err-plan c =
     let a = c.args in
     let f = c.in_err-plan.field-0.0 in
     let e : c.from_residual.result ≡ Err f = search rules in
-    let r = refused_build a.sync a.countdown a.fields a.n a.message.now a.out.now f c.in_err-plan.ensures in
+    let r = refused_build a.sync a.countdown a.fields a.n a.message.now a.out.now c.in_err-plan.ensures (no_zero f) in
     record { answer = rw e r.0; output = r.1 }
 
 -- what the rules have shown
@@ -27,7 +28,7 @@ passed : (c : In_ok-plan) → let a = c.args in
     InRange a.sync a.countdown a.fields a.n (length a.message.now) (length a.out.now)
 passed c =
     let a = c.args in
-    range a.sync a.countdown a.fields a.n a.message.now a.out.now c.in_ok-plan.plan c.in_ok-plan.ensures
+    range a.sync a.countdown a.fields a.n a.message.now a.out.now c.in_ok-plan.ensures refl
 
 -- what was planned
 laid : (c : In_ok-plan) → let a = c.args in
@@ -36,7 +37,7 @@ laid : (c : In_ok-plan) → let a = c.args in
     × (p.blocks ≡ blocks_for a.fields a.n)
 laid c =
     let a = c.args in
-    planned a.sync a.countdown a.fields a.n a.message.now a.out.now c.in_ok-plan.plan c.in_ok-plan.ensures
+    planned a.sync a.countdown a.fields a.n a.message.now a.out.now c.in_ok-plan.ensures refl
 
 pub put_sync-requires : goal.put_sync-requires
 put_sync-requires c =
@@ -71,7 +72,7 @@ returns c =
     let a = c.args in
     let p = laid (goal.at.returns c).In_ok-plan in
     let o = c.put_blocks.new.out in
-    let b = built_build a.sync a.countdown a.fields a.n a.message.now a.out.now c.in_ok-plan.plan c.in_ok-plan.ensures
+    let b = built_build a.sync a.countdown a.fields a.n a.message.now a.out.now c.in_ok-plan.ensures refl
     (bits_of c.put_sync.new.out) (bits_of c.put_header.new.out) o c.put_sync.ensures
     (rw (p.0, p.1, p.2) at c.put_header.ensures)
     (rw (p.1, p.2) at c.put_blocks.ensures)
