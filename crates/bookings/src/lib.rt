@@ -75,6 +75,8 @@ impl Bookings {
     }
 
     // Enters a transfer's pair, unless it is there: in front, and the oldest goes out.
+    // Kept: an array of its own, for `copy_within` would call `memmove`, and the library for C needs `memcpy` and
+    // `memset` alone.
     fn enter(&mut self, source: u32, reference: u8) -> Mark
         requires { (self.old.count ≤ 32) × (source < 2 ^ 24) }
         ensures { entered self.new (number_of result) ≡ entered_in self.old (source * 256 + reference) }
@@ -83,8 +85,9 @@ impl Bookings {
         if self.pairs[..self.count].contains(&pair) {
             return Mark::Again;
         }
-        self.pairs.copy_within(..31, 1);
-        self.pairs[0] = pair;
+        let mut pairs = [pair; 32];
+        pairs[1..].copy_from_slice(&self.pairs[..31]);
+        self.pairs = pairs;
         self.count = usize::min(self.count + 1, 32);
         Mark::New
     }

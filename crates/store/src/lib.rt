@@ -47,13 +47,16 @@ pub fn wipe(store: &mut [u8; 512])
 }
 
 // Hands the `n` bits that a store holds over: to the message's start.
+// Kept: a loop, for `copy_from_slice` would call `memmove`, and the library for C needs `memcpy` and `memset` alone.
 fn hand_over(store: &[u8; 512], n: usize, message: &mut [u8])
     requires few { n ≤ 4096 }
     requires long { 512 ≤ length message.old }
     ensures { message.new ≡ first_over n store.now message.old }
 {
     let whole = (n + 7) / 8;
-    message[..whole].copy_from_slice(&store[..whole]);
+    for (i, &byte) in store[..whole].iter().enumerate() {
+        message[i] = byte;
+    }
 }
 
 // Hands the `at` bits that a store holds over, and `n` bits of `s`, from bit `from` on, after them.

@@ -1,11 +1,9 @@
 use mathlib.Core.Path.{◌≡◌, ◌∙◌}
-use mathlib.Core.List.{◌∷◌}
 use Prim.Native.Nat.{◌+◌, ◌*◌, min}
 use native.Mathlib.Omega.{arith}
-use lib.ListN.{length, take, set}
+use lib.ListN.{take}
 use Rattle.bookings.proofs.Numbers.{any_is, pushed_all}
 use Rattle.bookings.proofs.KeptLaws.{entered_again, entered_new}
-use borrow.Author.Rules.{rules}
 use Rattle.bookings.proofs.Bookings.enter.Goals as goal
 
 pub returns-then-contains : goal.returns-then-contains
@@ -19,9 +17,7 @@ pub returns : goal.returns
 returns c =
     let self = c.args.self.now in
     let x = c.args.source * 256 + c.from.result in
-    let n : length self.pairs ≡ 32 = search rules in
     let e = c.contains.ensures.value ∙ any_is x (take self.count self.pairs) in
-    let s : set c.copy_within.new.self 0 x ≡ x ∷ take 31 self.pairs =
-    rw c.copy_within.ensures.after (pushed_all x self.pairs n) in
+    let s = pushed_all x self.pairs c.copy_from_slice.ensures.after in
     let m : c.min-self.result ≡ min 32 (self.count + 1) = omega (arith, c.min-self.ensures) in
     rw (← c.from.ensures) (entered_new self x c.contains.result e c.if-contains.false m s)
