@@ -40,7 +40,8 @@ pub fn join(store: &mut [u8], at: usize, s: &[u8], from: usize, n: usize)
 
 // Makes a lent store hold nothing.
 #[tactic(auto, using(crate::proofs::Stores::store_nothing))]
-pub fn wipe(store: &mut [u8; 512])
+pub fn wipe(store: &mut [u8])
+    requires { length store.old ≡ 512 }
     ensures { store.new ≡ store_of [] }
 {
     store.fill(0);
@@ -48,8 +49,9 @@ pub fn wipe(store: &mut [u8; 512])
 
 // Hands the `n` bits that a store holds over: to the message's start.
 // Kept: a loop, for `copy_from_slice` would call `memmove`, and the library for C needs `memcpy` and `memset` alone.
-fn hand_over(store: &[u8; 512], n: usize, message: &mut [u8])
+fn hand_over(store: &[u8], n: usize, message: &mut [u8])
     requires few { n ≤ 4096 }
+    requires whole { length store.now ≡ 512 }
     requires long { 512 ≤ length message.old }
     ensures { message.new ≡ first_over n store.now message.old }
 {
@@ -60,16 +62,10 @@ fn hand_over(store: &[u8; 512], n: usize, message: &mut [u8])
 }
 
 // Hands the `at` bits that a store holds over, and `n` bits of `s`, from bit `from` on, after them.
-pub fn hand_joined(
-    store: &[u8; 512],
-    at: usize,
-    s: &[u8],
-    from: usize,
-    n: usize,
-    message: &mut [u8],
-)
+pub fn hand_joined(store: &[u8], at: usize, s: &[u8], from: usize, n: usize, message: &mut [u8])
     requires inside { Inside (length s.now) from (from + n) }
     requires room { at + n ≤ 4096 }
+    requires whole { length store.now ≡ 512 }
     requires long { 512 ≤ length message.old }
     ensures { message.new
         ≡ first_over (at + n) (joined_to store.now at (take n (drop from (bits_of s.now))))
