@@ -14,7 +14,7 @@ use Rattle.std.proofs.lemmas.Slice.{between_is}
 use Rattle.bits.specs.Bits.{over, num, bits_n, bits_of}
 use Rattle.bits.proofs.Numbers.{length_bits_n, num_append, bits_n_add, bits_n_mod, bits_n_is, num_shr, num_low}
 use Rattle.bits.proofs.Numbers.{num_bits_n}
-use Rattle.bits.proofs.Bytes.{length_bits_of, bits_of_slice}
+use Rattle.bits.proofs.Bytes.{length_bits_of, length_bits_of_slice, bits_of_slice}
 use Rattle.bits.proofs.Over.{length_over, over_bytes, over_part}
 
 -- ---- a number's bytes
@@ -85,6 +85,29 @@ put_field s at w v r e lt =
     length_over at (bits_n w v) (bits_of s) (omega (arith, length_bits_n w v)) in
     bits_n_is (8 * length s) _ (over at (bits_n w v) (bits_of s)) (l ∙ n)
     (num_over (bits_of s) at w r v (omega arith) lt)
+
+-- the same of all the bits, where these are the bytes from f up to t
+pub put_window : (s : List ℕ) (at w v f t r : ℕ) → 8 * f ≤ at → at + w ≤ 8 * t → t ≤ length s → f ≤ t
+    → r ≡ 8 * t - (at + w) → v < 2 ^ w
+    → over (8 * f)
+    (bits_n (8 * (t - f))
+    (num (bits_of (slice f t s)) / 2 ^ (w + r) * 2 ^ (w + r) + (v * 2 ^ r + num (bits_of (slice f t s)) % 2 ^ r)))
+    (bits_of s)
+    ≡ over at (bits_n w v) (bits_of s)
+put_window s at w v f t r h k l o er lt =
+    let m = bits_of (slice f t s) in
+    let n : length m ≡ 8 * (t - f) = length_bits_of_slice f t s l in
+    let wv : length (bits_n w v) ≡ w = length_bits_n w v in
+    let lb : length (bits_of s) ≡ 8 * length s = length_bits_of s in
+    let j = at - 8 * f in
+    let e : 8 * f + j ≡ at = omega arith in
+    let is : bits_n (8 * (t - f)) (num m / 2 ^ (w + r) * 2 ^ (w + r) + (v * 2 ^ r + num m % 2 ^ r))
+    ≡ over j (bits_n w v) m =
+    bits_n_is (8 * (t - f)) _ (over j (bits_n w v) m) (length_over j (bits_n w v) m (omega arith) ∙ n)
+    (num_over m j w r v (omega arith) lt) in
+    ap (λ (x : List Bool). over (8 * f) x (bits_of s)) (is ∙ ap (over j (bits_n w v)) (bits_of_slice f t s))
+    ∙ over_part (8 * f) (8 * t) (bits_of s) (omega arith) (omega arith) j (bits_n w v) (omega arith)
+    ∙ ap (λ (x : ℕ). over x (bits_n w v) (bits_of s)) e
 
 -- what it says of all the bits, where these are k bytes of more
 pub put_part : (s new : List ℕ) (f k at : ℕ) (n : List Bool) → f + k ≤ length s → 8 * f ≤ at

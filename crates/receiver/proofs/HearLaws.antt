@@ -195,10 +195,10 @@ module _ {before : Receiver} (k : Reached before) (turn : Bool) {near : Nears}
   abbrev ns : List Near
   ns = kept_near k turn
 
-  count_known : near.count ≡ length ns
+  pub count_known : near.count ≡ length ns
   count_known = ap (λ (n : Nears). n.count) (near_known k turn e)
 
-  places_known : near.places ≡ flat (places_of ns)
+  pub places_known : near.places ≡ flat (places_of ns)
   places_known = ap (λ (n : Nears). n.places) (near_known k turn e)
 
   pub judged_kept : (x : Brought) (a : Open) (q : Place) (lost : Bool) {v : Verdict}
