@@ -9,10 +9,14 @@ use lib.Dec.{eqb, leb, ltb, lit<}
 use lib.ListN.{length, take, drop, length-append, length-drop, get_or-append}
 use lib.Seq.{length-take-le, take-append-le, drop-append-le}
 use borrow.Author.Tests.{leb-true, eqb-true, eqb-false, ltb-true, ltb-false, eq-eqb, ne_eqb, lt-ltb, le-ltb}
+use Rattle.std.specs.Prelude.{Result, Ok, Err, MatchResult}
+use Rattle.blocks.specs.declared.fault.Fault.TheVariants.{Range}
 use Rattle.records.specs.Numbers.{two_at}
 use Rattle.reports.specs.Lent.{Lent, brought}
 use Rattle.slotlog.specs.Log.{body_of, is_report, whole_of, next_in, report_in, is_first, Entry, report, other, cut}
-use Rattle.slotlog.specs.Log.{entry, entries_for, entries}
+use Rattle.slotlog.specs.Log.{entry, entries_for, entries, Beginning, begun}
+use Rattle.slotlog.specs.declared.log.Begun.{Begun}
+use Rattle.slotlog.specs.declared.log.NotBegun.{NotBegun}
 use Rattle.slotlog.specs.declared.log.Next.{Next}
 use Rattle.slotlog.specs.declared.log.Next.TheVariants.{End, Part, Cut, Other, Report}
 
@@ -27,6 +31,20 @@ and_second false b e = let z : ◌≡◌ {A = ℕ} 0 1 = cc in absurd (omega ari
 -- a first record has 16 bytes
 pub first_long : (w : List ℕ) → is_first w ≡ true → 16 ≤ length w
 first_long w e = leb-true 16 (length w) (and_first (leb 16 (length w)) (eqb (two_at w 0) 14 && eqb (two_at w 2) 0) e)
+
+-- what is answered of it, by whether its fault is 0
+abbrev pub begun_lem : Bool → Beginning → Result Begun NotBegun
+begun_lem c x =
+    let b : Begun = record { took = x.took; receiver = x.receiver } in
+    cond c (Ok b) (Err (record { fault = Range; begun = b }))
+
+-- what the first record takes, of either answer
+pub took_begun : (x : Beginning) (k : ℕ) → MatchResult (begun x) (λ b. k ≡ b.took) (λ e. k ≡ e.begun.took) → k ≡ x.took
+took_begun x k = when (eqb x.fault 0)
+  where
+    when : (c : Bool) → MatchResult (begun_lem c x) (λ b. k ≡ b.took) (λ e. k ≡ e.begun.took) → k ≡ x.took
+    when true h = h
+    when false h = h
 
 -- ---- what a record that was found takes
 

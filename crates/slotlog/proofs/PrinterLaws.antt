@@ -1,8 +1,7 @@
 -- What the printer has printed. Assumes nothing.
 use mathlib.Core.Path.{◌≡◌, refl, sym, ap, ap₂, ◌∙◌}
 use mathlib.Core.Bool.{Bool, true, false, cond, ◌&&◌}
-use Rattle.std.specs.Prelude.{Ok, Err}
-use Rattle.blocks.specs.declared.fault.Fault.TheVariants.{Range}
+use Rattle.std.specs.Prelude.{Ok}
 use mathlib.Core.List.{List, [], ◌∷◌, ◌++◌, append_assoc, append-nil}
 use Prim.Native.Nat.{ℕ, ◌+◌, ◌≤◌}
 use native.Mathlib.Omega.{arith}
@@ -28,7 +27,7 @@ use Rattle.slotlog.specs.Replies.{LogReply, to_cut, replies_of}
 use Rattle.slotlog.specs.Print.{unit_line, cut_line, lines_of, printed}
 use Rattle.slotlog.specs.Runs.{Stage, run_over, Ran, unless_cut, end_line}
 use Rattle.slotlog.specs.Printer.{Prints, first, more, run, Printed}
-use Rattle.slotlog.proofs.LogLaws.{and_first, first_long}
+use Rattle.slotlog.proofs.LogLaws.{and_first, first_long, begun_lem}
 use Rattle.slotlog.proofs.RunLaws.{goes_none, goes_more, goes_both, lines_both}
 use Rattle.slotlog.proofs.TurnLaws.{Come, come_over}
 
@@ -58,8 +57,7 @@ begun_ok : (x : Beginning) (b : Begun) → begun x ≡ Ok b
     → (x.fault ≡ 0) × (b.took ≡ x.took) × (b.receiver ≡ x.receiver)
 begun_ok x b e = when (eqb x.fault 0) refl e
   where
-    when : (c : Bool) → eqb x.fault 0 ≡ c
-        → cond c (Ok (record { took = x.took; receiver = x.receiver })) (Err Range) ≡ Ok b
+    when : (c : Bool) → eqb x.fault 0 ≡ c → begun_lem c x ≡ Ok b
         → (x.fault ≡ 0) × (b.took ≡ x.took) × (b.receiver ≡ x.receiver)
     when true f e = (eqb-true x.fault 0 f, cc, cc)
     when false f e = cc

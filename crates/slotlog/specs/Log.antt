@@ -3,7 +3,6 @@
 use Rattle.std.specs.Prelude.{Bool, cond, ◌&&◌, List, [], ◌∷◌, ℕ, zero, suc, ◌+◌, ◌-◌, eqb, leb, ltb}
 use Rattle.std.specs.Prelude.{length, take, drop, get_or}
 use Rattle.std.specs.Prelude.{Option, Some, None, Result, Ok, Err}
-use Rattle.blocks.specs.declared.fault.Fault.{Fault}
 use Rattle.blocks.specs.declared.fault.Fault.TheVariants.{Range}
 use Rattle.records.specs.Numbers.{two_at, four_at}
 use Rattle.reports.specs.Lent.{Lent}
@@ -13,6 +12,7 @@ use Rattle.receiver.specs.View.{new_receiver, fresh_of}
 use Rattle.receiver.specs.declared.Fresh.{Fresh}
 use Rattle.receiver.specs.declared.Receiver.{Receiver}
 use Rattle.slotlog.specs.declared.log.Begun.{Begun}
+use Rattle.slotlog.specs.declared.log.NotBegun.{NotBegun}
 use Rattle.slotlog.specs.declared.log.Kind.{Kind}
 use Rattle.slotlog.specs.declared.log.Kind.TheVariants as kind
 use Rattle.slotlog.specs.declared.log.Next.{Next}
@@ -91,9 +91,11 @@ begun_by w =
     cond (is_first w) (begun_as (fresh_of s.individual s.group s.mni) (first_bytes w))
     (record { fault = 13; took = 0; receiver = new_receiver 0 0 0 })
 
--- What is answered of it.
-abbrev pub begun : Beginning → Result Begun Fault
-begun b = cond (eqb b.fault 0) (Ok (record { took = b.took; receiver = b.receiver })) (Err Range)
+-- What is answered of it: the same bytes and receiver where it is refused.
+abbrev pub begun : Beginning → Result Begun NotBegun
+begun b =
+    let x : Begun = record { took = b.took; receiver = b.receiver } in
+    cond (eqb b.fault 0) (Ok x) (Err (record { fault = Range; begun = x }))
 
 -- ---- The records after it, to the end or to the first that is cut.
 

@@ -1,5 +1,5 @@
 // The records of a slot log.
-ghost use Rattle.std.specs.Prelude.{◌≡◌, ◌≤◌, length, take, IfOk};
+ghost use Rattle.std.specs.Prelude.{◌≡◌, ◌≤◌, length, take, MatchResult};
 ghost use Rattle.slotlog.specs.Room.{moved_up};
 ghost use Rattle.slotlog.specs.Log.{kind_of, number_of, body_of, is_report, whole_of, next_in};
 ghost use Rattle.slotlog.specs.Log.{is_first, begun_by, begun};
@@ -117,6 +117,14 @@ pub struct Begun {
     pub receiver: Receiver,
 }
 
+// Why a log gives no receiver of a unit, and how it starts all the same: with a receiver of three zeros, and the bytes
+// that its first record takes, none where there is no such record.
+#[derive(Clone, Copy)]
+pub struct NotBegun {
+    pub fault: Fault,
+    pub begun: Begun,
+}
+
 // Whether a log starts with a whole kind 0 of its right length.
 fn is_first(log: &[u8]) -> bool
     ensures { result ≡ is_first log.now }
@@ -124,50 +132,60 @@ fn is_first(log: &[u8]) -> bool
     FIRST <= log.len() && two(log[0], log[1]) == 14 && two(log[2], log[3]) == Kind::Settings as u16
 }
 
-// The bytes that the first record of a log takes.
-fn first_bytes(log: &[u8]) -> usize
-    ensures bytes { result ≡ (begun_by log.now).took }
-    ensures inside { result ≤ length log.now }
-{
-    if is_first(log) { FIRST } else { 0 }
-}
-
 // The receiver with the settings that a log starts with, and the bytes that its first record takes; `Range` where it
 // starts with none, or with settings of 2^24 or more.
-fn begin(log: &[u8]) -> Result<Begun, Fault>
+fn begin(log: &[u8]) -> Result<Begun, NotBegun>
     ensures begun { result ≡ begun (begun_by log.now) }
-    ensures reached { IfOk result (λ b. Reached b.receiver) }
-    ensures took { IfOk result (λ b. b.took ≤ length log.now) }
+    ensures reached { MatchResult result (λ b. Reached b.receiver) (λ e. Reached e.begun.receiver) }
+    ensures took { MatchResult result (λ b. b.took ≤ length log.now) (λ e. e.begun.took ≤ length log.now) }
 {
     if !is_first(log) {
-        return Err(Fault::Range);
+        let none = Receiver::fresh(0, 0, 0);
+        let receiver = none.receiver;
+        return Err(NotBegun {
+            fault: Fault::Range,
+            begun: Begun { took: 0, receiver },
+        });
     }
     let fresh = Receiver::fresh(four(log, 4), four(log, 8), four(log, 12));
-    if fresh.fault != 0 {
-        return Err(Fault::Range);
-    }
     let receiver = fresh.receiver;
-    Ok(Begun {
+    let begun = Begun {
         took: FIRST,
         receiver,
-    })
+    };
+    if fresh.fault != 0 {
+        return Err(NotBegun {
+            fault: Fault::Range,
+            begun,
+        });
+    }
+    Ok(begun)
+}
+
+// The bytes that the first record takes, also where its settings are refused.
+fn first_bytes(begun: Result<Begun, NotBegun>) -> usize
+    ensures { MatchResult begun (λ b. result ≡ b.took) (λ e. result ≡ e.begun.took) }
+{
+    match begun {
+        Ok(begun) => begun.took,
+        Err(refused) => refused.begun.took,
+    }
 }
 
 impl Begun {
     // How a log starts of which the first `have` bytes of a room are there, all of it where it has fewer; what is left
     // of them after the first record is moved to the room's start, also where its settings are refused.
     // Kept: `have` beside the room, whose other bytes are room for more of the log.
-    pub fn part(room: &mut [u8], have: usize) -> Result<Begun, Fault>
+    pub fn part(room: &mut [u8], have: usize) -> Result<Begun, NotBegun>
         ensures begun { result ≡ begun (begun_by (take have room.old)) }
-        ensures reached { IfOk result (λ b. Reached b.receiver) }
-        ensures took { IfOk result (λ b. b.took ≤ have) }
+        ensures reached { MatchResult result (λ b. Reached b.receiver) (λ e. Reached e.begun.receiver) }
+        ensures took { MatchResult result (λ b. b.took ≤ have) (λ e. e.begun.took ≤ have) }
         ensures inside { (begun_by (take have room.old)).took ≤ have }
         ensures moved { room.new ≡ moved_up have (begun_by (take have room.old)).took room.old }
     {
         let n = have.min(room.len());
-        let log = &room[..n];
-        let took = first_bytes(log);
-        let begun = begin(log);
+        let begun = begin(&room[..n]);
+        let took = first_bytes(begun);
         to_start(room, took, n);
         begun
     }
