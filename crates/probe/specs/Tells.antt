@@ -1,6 +1,8 @@
 -- What a record of any kind does.
 use Rattle.std.specs.Prelude.{◌≡◌, List, ℕ, eqb, replicate}
 use Rattle.std.proofs.Math.Option.{Option}
+use Rattle.std.specs.declared.ops.ControlFlow.{ControlFlow}
+use Rattle.std.specs.declared.ops.ControlFlow.TheVariants.{Continue, Break}
 use Rattle.receiver.specs.Reached as receiver
 use Rattle.bookings.specs.Kept as bookings
 use Rattle.lines.specs.Lines.{Says}
@@ -60,3 +62,8 @@ pub record Kept (before : State) (kind : ℕ) (body : List ℕ) (after : State) 
   pub line : List ℕ
   pub tells : Tells before kind body (replicate 4096 0) line next
   pub kept : after ≡ next.state
+
+-- What is kept where another record is to be read, and where none is.
+abbrev pub kept_in : ControlFlow State State → State
+kept_in (Continue s) = s
+kept_in (Break s) = s

@@ -47,8 +47,9 @@
 // than its kind, prints `cut`, and nothing is read after it.
 #![tactic(auto)]
 
-ghost use Rattle.std.specs.Prelude.{◌≡◌, ◌≤◌, length, IfSome};
-ghost use Rattle.probe.specs.Tells.{StateReached, Tells, Kept};
+ghost use Rattle.std.specs.Prelude.{◌≡◌, ◌≤◌, length, if◌then◌else◌};
+ghost use Rattle.std.specs.declared.ops.ControlFlow.TheVariants.{Continue, Break};
+ghost use Rattle.probe.specs.Tells.{StateReached, Tells, Kept, kept_in};
 
 use bookings::Bookings;
 use lines::input::Taken;
@@ -56,6 +57,7 @@ use lines::line;
 use lines::line::Told;
 use receiver::Receiver;
 use std::io::{Read, Write};
+use std::ops::ControlFlow;
 
 // What is kept from one record to the next.
 #[derive(Clone, Copy)]
@@ -109,36 +111,46 @@ fn tell(before: State, kind: u16, body: &[u8], line: &mut [u8]) -> Told<State>
     }
 }
 
-// Answers a record, and answers what is kept after it; none where nothing more is to be read.
-fn answer_record<W: Write>(to: &mut W, before: State, kind: u16, body: &[u8]) -> Option<State>
-    requires { StateReached before }
-    ensures { IfSome result (λ after. StateReached after × Kept before kind body.now after) }
+// What is kept, and whether another record is to be read.
+fn step(state: State, more: bool) -> ControlFlow<State, State>
+    ensures kept { state ≡ kept_in result }
+    ensures more { result ≡ (if more then Continue state else Break state) }
 {
-    let mut out = [0u8; 4096];
-    let after = tell(before, kind, body, &mut out);
-    let Some(n) = after.line else {
-        line::cut(to);
-        return None;
-    };
-    if line::say(to, &out[..n]) {
-        Some(after.state)
+    if more {
+        ControlFlow::Continue(state)
     } else {
-        None
+        ControlFlow::Break(state)
     }
 }
 
-fn next<R: Read, W: Write>(input: &mut R, to: &mut W, before: State) -> Option<State>
+// Answers a record: what is kept after it, and whether another is to be read.
+fn answer_record<W: Write>(
+    to: &mut W,
+    before: State,
+    kind: u16,
+    body: &[u8],
+) -> ControlFlow<State, State>
     requires { StateReached before }
-    ensures { IfSome result (λ after. StateReached after) }
+    ensures { StateReached (kept_in result) × Kept before kind body.now (kept_in result) }
+{
+    let mut out = [0u8; 4096];
+    let after = tell(before, kind, body, &mut out);
+    let state = after.state;
+    let Some(n) = after.line else {
+        return step(state, line::cut(to));
+    };
+    step(state, line::say(to, &out[..n]))
+}
+
+fn next<R: Read, W: Write>(input: &mut R, to: &mut W, before: State) -> ControlFlow<State, State>
+    requires { StateReached before }
+    ensures { StateReached (kept_in result) }
 {
     let mut body = [0u8; 4096];
     match lines::input::take(input, &mut body) {
         Taken::Record(kind, n) => answer_record(to, before, kind, &body[..n]),
-        Taken::Cut => {
-            line::cut(to);
-            None
-        }
-        Taken::End => None,
+        Taken::Cut => step(before, line::cut(to)),
+        Taken::End => ControlFlow::Break(before),
     }
 }
 
@@ -151,7 +163,7 @@ fn main(rt: HostRuntime) {
     let bookings = Bookings::fresh();
     let mut state = State { receiver, bookings };
     for _ in 0..u64::MAX {
-        let Some(after) = next(&mut input, &mut to, state) else {
+        let ControlFlow::Continue(after) = next(&mut input, &mut to, state) else {
             return;
         };
         state = after;

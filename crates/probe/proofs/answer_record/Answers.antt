@@ -1,4 +1,4 @@
-use mathlib.Core.Path.{sym}
+use mathlib.Core.Path.{sym, refl}
 use lib.ListN.{replicate}
 use lib.Seq.{length-take-le}
 use Rattle.probe.proofs.Telling.{told_fits}
@@ -17,3 +17,15 @@ slice_bounds-say-end g c =
     sym
     (length-take-le c.in-Some.n t.new.line
     (told_fits a.body.now (replicate 4096 0) _ a.before a.kind t.result c.in-Some.is t.ensures.tells))
+
+pub returns-in_default : goal.returns-in_default
+returns-in_default g c =
+    let t = c.tell-after in
+    rw (← c.step.ensures.kept)
+    (t.ensures.reached, record { next = t.result; line = _; tells = t.ensures.tells; kept = refl })
+
+pub returns : goal.returns
+returns g c =
+    let t = c.tell-after in
+    rw (← c.step-2.ensures.kept)
+    (t.ensures.reached, record { next = t.result; line = _; tells = t.ensures.tells; kept = refl })
