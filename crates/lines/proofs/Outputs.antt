@@ -5,6 +5,7 @@ use mathlib.Core.List.{List, [], ◌∷◌}
 use Prim.Native.Nat.{ℕ, zero, suc, ◌+◌, ◌≤◌, ◌<◌}
 use native.Mathlib.Omega.{arith}
 use lib.ListN.{length, take, drop, get_or, set, replicate}
+use lib.Seq.{drop-cons}
 use lib.Dec.{eqb}
 use borrow.Author.Tests.{ne_eqb}
 use mir.Val.{bool_byte}
@@ -38,18 +39,23 @@ unfolding rest_of
 rest_all [] h = refl
 rest_all (x ∷ xs) h = rw (h 0 (omega arith)) (rest_all xs (λ k l. h (suc k) (omega arith)))
 
-rest_other : (s : List ℕ) (k : ℕ) → k < length s → (get_or s k 0 ≡ 90 → ⊥) → 0 ≡ rest_of s
+not_all : (s : List ℕ) (k : ℕ) → k < length s → (get_or s k 0 ≡ 90 → ⊥) → 0 ≡ rest_of s
 unfolding rest_of
-rest_other [] k h n = absurd (omega arith)
-rest_other (x ∷ xs) zero h n = rw (ne_eqb x 90 n) refl
-rest_other (x ∷ xs) (suc k) h n = rw (← rest_other xs k (omega arith) n, either_zero (eqb x 90)) refl
+not_all [] k h n = absurd (omega arith)
+not_all (x ∷ xs) zero h n = rw (ne_eqb x 90 n) refl
+not_all (x ∷ xs) (suc k) h n = rw (← not_all xs k (omega arith) n, either_zero (eqb x 90)) refl
+
+-- of a rest that starts with another byte
+pub rest_other : (s : List ℕ) (i : ℕ) → i < length s → (get_or s i 0 ≡ 90 → ⊥) → 0 ≡ rest_of (drop i s)
+unfolding rest_of
+rest_other s i h n = rw (drop-cons s i 0 h, ne_eqb (get_or s i 0) 90 n) refl
 
 -- as it was found by going over the bytes
 pub rest_found : (s : List ℕ) (r : Bool)
     → MatchBool r (AllWithin (λ x. x ≡ 90) s 0 (length s)) ((k : ℕ) × (k < length s) × HoldsAt (λ x. x ≡ 90 → ⊥) s k)
     → bool_byte r ≡ rest_of s
 rest_found s true h = rest_all s (λ k l. h k 0 (omega arith) l)
-rest_found s false h = rest_other s h.0 h.1 (h.2 0)
+rest_found s false h = not_all s h.0 h.1 (h.2 0)
 
 -- ---- both
 

@@ -7,7 +7,9 @@ use native.Mathlib.Omega.{arith}
 use lib.ListN.{length, set, length-set}
 use Rattle.text.specs.Text.{Wrote, spaced}
 use Rattle.text.proofs.Writing.{wrote_more, wrote_both}
-use Rattle.lines.specs.Lines.{start_of, Stands, Says}
+use Rattle.lines.specs.Lines.{IsPrefixLen, start_of, Held, Stands, Says}
+use Rattle.lines.specs.declared.input.Taken.{Taken}
+use Rattle.lines.specs.declared.input.Taken.TheVariants.{Record}
 use Rattle.std.specs.declared.option.Option as answer
 use Rattle.std.specs.declared.option.Option.TheVariants.{Some}
 
@@ -27,3 +29,7 @@ pub line_fits : (old : List ℕ) (line : Option (List ℕ)) (new : List ℕ) {r 
     → Says old line new r → n ≤ length new
 line_fits old none new e s = absurd (rw e at s)
 line_fits old (some l) new e s = (rw e at s).fits
+
+-- and a record's body does
+pub body_held : (body : List ℕ) {r : Taken} {kind n : ℕ} → r ≡ Record kind n → Held r body → IsPrefixLen n body
+body_held body e h = rw e at h
