@@ -8,10 +8,10 @@ Calls F =
     Once F (Bor (List ℕ) × (MutBor (List ℕ) × (MutBor (List ℕ) × Unit {0})))
     (ℕ × (MutBor (List ℕ) × (MutBor (List ℕ) × Unit {0})))
 
--- It may be called with a body of at least 35 bytes, an output of at most 1,024 and a line's room of at least 4,096.
-abbrev pub Callable : {F : Type 0} → Calls F → F → Type 0
-Callable g f =
-    (body : Bor (List ℕ)) → (out line : MutBor (List ℕ)) → 35 ≤ length body.now → length out.now ≤ 1024
+-- It may be called with a body of at least 35 bytes, an output of at most so many and a line's room of at least 4,096.
+abbrev pub Callable : {F : Type 0} → ℕ → Calls F → F → Type 0
+Callable most g f =
+    (body : Bor (List ℕ)) → (out line : MutBor (List ℕ)) → 35 ≤ length body.now → length out.now ≤ most
     → 4096 ≤ length line.now → g.pre f (body, (out, (line, tt)))
 
 -- It was called with this body, output and room, answered n, and left this in the room.

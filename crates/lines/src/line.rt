@@ -129,32 +129,32 @@ pub fn unknown(out: &mut [u8]) -> Option<usize>
     Some(text::copy(out, 0, b"kind\n"))
 }
 
-// The most bytes that a call is lent for its output.
-const LENT: usize = 1024;
-
-// The line of a build: `built` puts it together from the body, and is lent an output that is as long as the body says
-// at place 33, each byte as before a call. Above 1,024 bytes it is of a kind that there is not.
+// The line of a build: `built` puts it together from the body, and is lent as much of `out` as the body says at place
+// 33, each byte as before a call. Where `out` is shorter it is of a kind that there is not.
 pub fn line_of_build<F: FnOnce(&[u8], &mut [u8], &mut [u8]) -> usize>(
     body: &[u8],
+    out: &mut [u8],
     line: &mut [u8],
     built: F,
 ) -> Option<usize>
     requires room { 4096 ≤ length line.old }
-    requires callable { Callable F.FnOnce built }
+    requires callable { Callable (length out.old) F.FnOnce built }
     ensures short { length body.now < 35 → Says line.old none line.new result }
-    ensures unknown { 35 ≤ length body.now → 1024 < two_at body.now 33 → Says line.old unknown_line line.new result }
-    ensures built { 35 ≤ length body.now → two_at body.now 33 ≤ 1024
+    ensures unknown { 35 ≤ length body.now → length out.old < two_at body.now 33
+        → Says line.old unknown_line line.new result }
+    ensures built { 35 ≤ length body.now → two_at body.now 33 ≤ length out.old
         → IsSomeAnd result (λ n. Lent F.FnOnce built body.now (replicate (two_at body.now 33) 90) line.old n line.new) }
 {
     if body.len() < 35 {
         return None;
     }
     let lent = usize::from(records::two_at(body, 33));
-    if LENT < lent {
+    if out.len() < lent {
         return unknown(line);
     }
-    let mut out = [BEFORE; LENT];
-    Some(built(body, &mut out[..lent], line))
+    let output = &mut out[..lent];
+    output.fill(BEFORE);
+    Some(built(body, output, line))
 }
 
 // Writes a line to `to`, as to standard output; false where it takes no more.

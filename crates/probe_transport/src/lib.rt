@@ -49,7 +49,8 @@ pub fn build(body: &[u8], line: &mut [u8]) -> Option<usize>
     requires { 4096 ≤ length line.old }
     ensures { Says line.old (build_line body.now) line.new result }
 {
-    line_of_build(body, line, built)
+    let mut out = [0u8; 1024];
+    line_of_build(body, &mut out, line, built)
 }
 
 // Makes the bookings fresh ones.

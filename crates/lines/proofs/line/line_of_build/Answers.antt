@@ -1,10 +1,13 @@
-use mathlib.Core.Path.{◌∙◌, refl}
-use Rattle.lines.proofs.Outputs.{take_same}
+use mathlib.Core.Path.{ap, ◌∙◌, refl}
+use Prim.Native.Nat.{ℕ}
+use lib.ListN.{replicate}
+use lib.Seq.{length-take-le}
 use Rattle.lines.proofs.line.line_of_build.Goals as goal
 
 pub returns-clause-built : goal.returns-clause-built
 returns-clause-built g c = λ h k.
     let t = c.from-lent.ensures ∙ c.two_at.ensures in
+    let n = length-take-le c.from-lent.result c.args.out.now c.if-out-lent.false in
     record {
       read = _;
       lent = _;
@@ -13,7 +16,7 @@ returns-clause-built g c = λ h k.
       line = _;
       met = c.built.ensures;
       reads = refl;
-      lends = rw t (take_same _ 1024 90 k);
+      lends = c.fill.ensures.after (λ y e. e) ∙ ap (λ (i : ℕ). replicate i 90) (n ∙ t);
       before = refl;
       after = refl;
     }
