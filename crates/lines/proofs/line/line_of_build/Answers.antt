@@ -1,5 +1,6 @@
 use mathlib.Core.Path.{ap, ◌∙◌, refl}
 use Prim.Native.Nat.{ℕ}
+use native.Mathlib.Omega.{arith}
 use lib.ListN.{replicate}
 use lib.Seq.{length-take-le}
 use Rattle.lines.proofs.line.line_of_build.Goals as goal
@@ -7,7 +8,7 @@ use Rattle.lines.proofs.line.line_of_build.Goals as goal
 pub returns-clause-built : goal.returns-clause-built
 returns-clause-built g c = λ h k.
     let t = c.from-lent.ensures ∙ c.two_at.ensures in
-    let n = length-take-le c.from-lent.result c.args.out.now c.if-out-lent.false in
+    let n = length-take-le c.from-lent.result c.args.out.now (omega arith) in
     record {
       read = _;
       lent = _;
