@@ -11,6 +11,7 @@ ghost use Rattle.std.specs.Prelude.{◌≡◌, length};
 ghost use Rattle.transport.specs.Building.{sdu_of, out_of};
 ghost use Rattle.transport.specs.Reading.{refused_transport, read_of};
 
+use blocks::fault::Fault;
 use blocks::header::Fields;
 
 // An SDS-TL message's elements; one that the message does not have is 0. `kind` is 1 SDS-TRANSFER, 2 SDS-REPORT, 3
@@ -73,7 +74,10 @@ pub fn refused(fault: u8) -> Transport
 pub fn read(fields: Fields, n: usize, sdu: &[u8]) -> Transport
     ensures { result ≡ read_of fields.message fields.elements n sdu.now }
 {
-    match crate::reading::read_lent(fields.message, fields.elements, n, sdu) {
+    if !bits::bits_lent(n, sdu.len()) {
+        return refused(Fault::Range.number());
+    }
+    match crate::reading::read_bits(fields.message, (fields.elements % 2) as usize, n, sdu) {
         Ok(transport) => transport,
         Err(fault) => refused(fault.number()),
     }

@@ -5,7 +5,7 @@ ghost use Rattle.blocks.specs.Faults.{first_of, refusal};
 ghost use Rattle.transport.specs.Elements.{kind_in_data};
 ghost use Rattle.transport.specs.Kinds.{number_or};
 ghost use Rattle.transport.specs.Runs.{kind_at, front_rules, end_rules};
-ghost use Rattle.transport.specs.Reading.{direct, forward_holds, fcs_holds, read_bits, read_of, answer};
+ghost use Rattle.transport.specs.Reading.{direct, forward_holds, fcs_holds, read_bits, answer};
 
 use crate::elements::{ack_of, fixed_at, front_of, length_in, part, run, stored_at};
 use crate::kinds::Kind;
@@ -118,7 +118,7 @@ fn end_rules(
 }
 
 // What the first `n` of the lent bits read as.
-fn read_bits(carrier: u8, flag: usize, n: usize, s: &[u8]) -> Result<Transport, Fault>
+pub(crate) fn read_bits(carrier: u8, flag: usize, n: usize, s: &[u8]) -> Result<Transport, Fault>
     requires { (n ≤ 8 * length s.now) × (flag ≤ 1) }
     ensures { answer result ≡ read_bits carrier flag (take n (bits_of s.now)) }
 {
@@ -164,19 +164,4 @@ fn read_bits(carrier: u8, flag: usize, n: usize, s: &[u8]) -> Result<Transport, 
         first: kind.per(first, first, 0, 0),
         bits: kind.per(rest, rest, 0, 0),
     })
-}
-
-// What the first `n` bits of a lent DM-SDU read as, in a header with this message type and these elements.
-pub(crate) fn read_lent(
-    carrier: u8,
-    elements: u64,
-    n: usize,
-    sdu: &[u8],
-) -> Result<Transport, Fault>
-    ensures { answer result ≡ read_of carrier elements n sdu.now }
-{
-    if !bits::bits_lent(n, sdu.len()) {
-        return Err(Fault::Range);
-    }
-    read_bits(carrier, (elements % 2) as usize, n, sdu)
 }
