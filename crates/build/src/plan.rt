@@ -83,6 +83,7 @@ const MOST: usize = 15 * SchF::ROOM;
 
 // The first of the faults 8, 9, 14 and 1, or the plan, for a message of n bits after a header of h, and an output of so
 // many bytes.
+// In place, since a plan in memory would cost each build, a refused one too.
 #[inline(always)]
 #[tactic(auto, unfolding(crate::specs::Plan::plan_of))]
 fn plan_of(to: u8, from: u8, entry: u8, h: usize, n: usize, lent: usize) -> Result<Plan, Fault>
