@@ -135,11 +135,11 @@ fn answer_record<W: Write>(
 {
     let mut out = [0u8; 4096];
     let after = tell(before, kind, body, &mut out);
-    let state = after.state;
-    let Some(n) = after.line else {
-        return step(state, line::cut(to));
+    let more = match after.line {
+        Some(n) => line::say(to, &out[..n]),
+        None => line::cut(to),
     };
-    step(state, line::say(to, &out[..n]))
+    step(after.state, more)
 }
 
 fn next<R: Read, W: Write>(input: &mut R, to: &mut W, before: State) -> ControlFlow<State, State>

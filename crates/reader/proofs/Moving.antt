@@ -4,7 +4,7 @@
 use mathlib.Core.Path.{◌≡◌, ap, ◌∙◌}
 use mathlib.Core.List.{List}
 use Prim.Native.Nat.{ℕ}
-use Rattle.reader.specs.Reading.{taken_at, skipped_at, step_by, answer_of, moved_to}
+use Rattle.reader.specs.Reading.{step_by, answer_of, moved_to}
 use Rattle.reader.specs.declared.Reader.{Reader}
 use Rattle.reader.specs.declared.Step.{Step}
 
@@ -14,12 +14,3 @@ pub moves : (step_of : List ℕ → ℕ → ℕ → Step) (old new : Reader) (n 
     → (answer_of result ≡ answer_of (step_by step_of old n)) × (new ≡ moved_to (step_by step_of old n) old)
 moves step_of old new n result keeps s m =
     let e = keeps result s in (ap answer_of e, m ∙ ap (λ (t : Step). moved_to t old) e)
-
--- So with `take_at`, and with `skip_at`.
-pub takes : (old new : Reader) (w : ℕ) (result : Step) → result ≡ step_by taken_at old w → new ≡ moved_to result old
-    → (answer_of result ≡ answer_of (step_by taken_at old w)) × (new ≡ moved_to (step_by taken_at old w) old)
-takes old new w result = moves taken_at old new w result (λ r e. e)
-
-pub skips : (old new : Reader) (n : ℕ) (result : Step) → result ≡ step_by skipped_at old n → new ≡ moved_to result old
-    → (answer_of result ≡ answer_of (step_by skipped_at old n)) × (new ≡ moved_to (step_by skipped_at old n) old)
-skips old new n result = moves skipped_at old new n result (λ r e. e)

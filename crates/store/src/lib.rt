@@ -48,7 +48,8 @@ pub fn wipe(store: &mut [u8])
 }
 
 // Hands the `n` bits that a store holds over: to the message's start.
-// Kept: a loop, for `copy_from_slice` would call `memmove`, and the library for C needs `memcpy` and `memset` alone.
+// Kept: a loop: of two lent slices the compiler does not know that they are apart, so `copy_from_slice` would take
+// `memmove`, and the library for C needs `memcpy` and `memset` alone.
 fn hand_over(store: &[u8], n: usize, message: &mut [u8])
     requires few { n ≤ 4096 }
     requires whole { length store.now ≡ 512 }

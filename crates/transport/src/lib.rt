@@ -74,7 +74,7 @@ pub fn refused(fault: u8) -> Transport
 pub fn read(fields: Fields, n: usize, sdu: &[u8]) -> Transport
     ensures { result ≡ read_of fields.message fields.elements n sdu.now }
 {
-    // Tested here: within `read_bits` such a refusal would take half as many steps again.
+    // Tested here, ahead of all that reading sets up: within it such a refusal would take half as many steps again.
     if !bits::bits_lent(n, sdu.len()) {
         return refused(Fault::Range.number());
     }

@@ -18,14 +18,8 @@ slice_bounds-say-end g c =
     (length-take-le c.in-Some.n t.new.line
     (told_fits a.body.now (replicate 4096 0) _ a.before a.kind t.result c.in-Some.is t.ensures.tells))
 
-pub returns-in_default : goal.returns-in_default
-returns-in_default g c =
-    let t = c.tell-after in
-    rw (← c.step.ensures.kept)
-    (t.ensures.reached, record { next = t.result; line = _; tells = t.ensures.tells; kept = refl })
-
 pub returns : goal.returns
 returns g c =
     let t = c.tell-after in
-    rw (← c.step-2.ensures.kept)
+    rw (← c.step.ensures.kept)
     (t.ensures.reached, record { next = t.result; line = _; tells = t.ensures.tells; kept = refl })

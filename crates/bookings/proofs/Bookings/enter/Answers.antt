@@ -2,7 +2,7 @@ use mathlib.Core.Path.{◌≡◌, ◌∙◌}
 use Prim.Native.Nat.{◌+◌, ◌*◌, min}
 use native.Mathlib.Omega.{arith}
 use lib.ListN.{take}
-use Rattle.bookings.proofs.Numbers.{any_is, pushed_all}
+use Rattle.bookings.proofs.Numbers.{any_is, put_in_front}
 use Rattle.bookings.proofs.KeptLaws.{entered_again, entered_new}
 use Rattle.bookings.proofs.Bookings.enter.Goals as goal
 
@@ -18,6 +18,6 @@ returns c =
     let self = c.args.self.now in
     let x = c.args.source * 256 + c.from.result in
     let e = c.contains.ensures.value ∙ any_is x (take self.count self.pairs) in
-    let s = pushed_all x self.pairs c.copy_from_slice.ensures.after in
+    let s = put_in_front x self.pairs c.copy_from_slice.ensures.after in
     let m : c.min-self.result ≡ min 32 (self.count + 1) = omega (arith, c.min-self.ensures) in
     rw (← c.from.ensures) (entered_new self x c.contains.result e c.if-contains.false m s)
