@@ -75,8 +75,8 @@ impl Bookings {
     }
 
     // Enters a transfer's pair, unless it is there: in front, and the oldest goes out.
-    // Kept: the others are copied into an array of its own: to move them within the lent one would take `memmove`, and the
-    // library for C needs `memcpy` and `memset` alone.
+    // Kept: the others are copied into an array of its own: to move them within the lent one would take `memmove`, and
+    // the library for C needs `memcpy` and `memset` alone.
     fn enter(&mut self, source: u32, reference: u8) -> Mark
         requires { (self.old.count ≤ 32) × (source < 2 ^ 24) }
         ensures { entered self.new (number_of result) ≡ entered_in self.old (source * 256 + reference) }
