@@ -15,7 +15,7 @@ use Rattle.build.specs.Build.{sch_s, sch_h}
 use Rattle.build.specs.declared.Built.{Built}
 use Rattle.reports.specs.Lent.{Lent}
 use Rattle.receiver.specs.View.{fresh_of}
-use Rattle.receiver.specs.Reached.{Hears}
+use Rattle.receiver.specs.Reached.{Reached, Hears}
 use Rattle.receiver.specs.declared.Receiver.{Receiver}
 use Rattle.receiver.specs.declared.Reply.{Reply}
 use Rattle.receiver.specs.declared.Fresh.{Fresh}
@@ -68,6 +68,11 @@ hears {before} {l} {r} {old} {new} h s ls k =
       store = demand3.store c m;
       goes_on = after_call c m;
     }
+
+-- the same with the receiver after it, as `hear` and `hear_in_place` say it
+pub heard : {before : Receiver} {l : Lent} {r : Reply} {old new : List ℕ}
+    → Reached r.receiver × Hears before l r old new → Reached r.receiver × HearsAs before l r old new
+heard (k, h) = (k, hears h)
 
 -- ---- two calls in turn
 

@@ -166,6 +166,7 @@ fn begins(individual: u32, group: u32, mni: u32) -> Fresh
 }
 
 // Demands 1 and 3 of `hear`; the calls go on with its receiver.
+#[tactic(auto, using(crate::proofs::CallLaws::heard))]
 fn hears(
     receiver: Receiver,
     frame: u8,
@@ -183,6 +184,7 @@ fn hears(
 }
 
 // The same of `hear_in_place`, which is what C calls: the calls go on with the receiver where it stands.
+#[tactic(auto, using(crate::proofs::CallLaws::heard))]
 fn hears_in_place(
     receiver: &mut Receiver,
     frame: u8,
